@@ -6,8 +6,7 @@ use Rattle.std.specs.Prelude.{ℤ, is_none, IfOk}
 use Rattle.std.specs.Str.{bytes_eq}
 use Rattle.fr_auditing.proofs.StreamLemmas.{earlier_bytes}
 use Rattle.fr_auditing.specs.LongStream.{bytes_by}
-use Rattle.fr_auditing.specs.Tracking.{IsOutcome, LeavesEarlier}
-use Rattle.fr_interface.specs.Standing.{Standing, ForEachHistory}
+use Rattle.fr_auditing.specs.Tracking.{IsEarlierText}
 use Rattle.fr_interface.specs.State.{State, IsLegalInterface}
 use Rattle.fr_journal.specs.Forms.{Entry}
 use Rattle.fr_lines.proofs.NodeLemmas.{node_fits}
@@ -158,7 +157,7 @@ bytes_room : (bytes : List ℕ) (s : Progress) → HasRoomSoFar s → HasRoomSoF
 bytes_room [] s room = room
 bytes_room (b ∷ bytes) s room = bytes_room bytes (take_byte s b) (byte_room s b room)
 
--- ---- the data that a text leaves
+-- ---- the interface that a text leaves
 
 room_in : (s : Progress) (t : State) → HasRoomSoFar s → outcome_of s ≡ Ok t → HasNodeRoom t.plan
 room_in (failed e) t room is = cc is
@@ -170,20 +169,16 @@ room_in (reading (body v s) line) t room is = cc is
 room_in (reading (finished v s) line) t room is =
     let same : s ≡ t = cc is in subst (λ (x : State). HasNodeRoom x.plan) same room
 
-pub earlier_found : (r : Result Standing TraceError) (text : List ℕ) → IsOutcome r (bytes_by false fresh text)
-    → IfOk r (λ h. ForEachHistory h IsLegalInterface) → IfOk r (λ h. LeavesEarlier h text)
-earlier_found (Err e) text outcome legal = tt
-earlier_found (Ok h) text outcome legal =
-    let (t, is, history) = outcome in
-    let read : outcome_of (take_bytes fresh text) ≡ Ok t = ap outcome_of (sym (earlier_bytes text fresh)) ∙ is in
-    let room = room_in (take_bytes fresh text) t (bytes_room text fresh tt) read in
-    let lawful : IsLegalInterface t = legal t history in (
-      t,
+pub earlier_found : (r : Result State TraceError) (text : List ℕ) → r ≡ outcome_of (bytes_by false fresh text)
+    → IfOk r IsLegalInterface → IfOk r (λ s. IsEarlierText s text)
+earlier_found (Err e) text is legal = tt
+earlier_found (Ok t) text is legal =
+    let read : outcome_of (take_bytes fresh text) ≡ Ok t = ap outcome_of (sym (earlier_bytes text fresh)) ∙ sym is in
+    let room = room_in (take_bytes fresh text) t (bytes_room text fresh tt) read in (
       read,
       accepted_text text t read,
       record {
-        legal = lawful;
-        node_plan = record { plan_is = lawful.plan_is; few_host_entries = room.0; few_slot_entries = room.1 };
+        legal = legal;
+        node_plan = record { plan_is = legal.plan_is; few_host_entries = room.0; few_slot_entries = room.1 };
       },
-      history,
     )

@@ -1,11 +1,8 @@
 pub mod CutLemmas
 pub mod EarlierLemmas
 pub mod KeptLemmas
-pub mod LineLemmas
 pub mod LongAgainLemmas
 pub mod LongFoundLemmas
 pub mod LongNodeLemmas
 pub mod LongTextLemmas
-pub mod ReplayLemmas
-pub mod RoomLemmas
 pub mod StreamLemmas

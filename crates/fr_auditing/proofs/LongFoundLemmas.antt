@@ -12,8 +12,7 @@ use Rattle.fr_auditing.proofs.StreamLemmas.{late_byte, next_byte_late, IsLate}
 use Rattle.fr_auditing.specs.LongReading.{long_node_in}
 use Rattle.fr_auditing.specs.LongStream.{long_line, long_byte, long_bytes}
 use Rattle.fr_auditing.specs.LongText.{long_first_line, long_head_text, long_params_text, long_numbers_text, long_text}
-use Rattle.fr_auditing.specs.Tracking.{IsOutcome, LeavesText}
-use Rattle.fr_interface.specs.Standing.{Standing, ForEachHistory}
+use Rattle.fr_auditing.specs.Tracking.{IsLongText}
 use Rattle.fr_interface.specs.State.{State, IsLegalInterface}
 use Rattle.fr_lines.proofs.ParameterLemmas.{params_line_takes}
 use Rattle.fr_lines.specs.declared.versions.Version.{Version}
@@ -214,15 +213,14 @@ found_in (reading (finished v s) line) text t begun is =
 pub accepted_long : (text : List ℕ) (t : State) → outcome_of (long_bytes fresh text) ≡ Ok t → text ≡ long_text t
 accepted_long text t is = found_in (long_bytes fresh text) text t (bytes_begun text fresh [] refl) is
 
--- ---- the data that a text leaves
+-- ---- the interface that a text leaves
 
-pub outcome_found : (r : Result Standing TraceError) (text : List ℕ) → IsOutcome r (long_bytes fresh text)
-    → IfOk r (λ h. ForEachHistory h IsLegalInterface) → IfOk r (λ h. LeavesText h text)
-outcome_found (Ok h) text outcome legal =
-    let (t, is, history) = outcome in (t, accepted_long text t is, legal t history, history)
-outcome_found (Err e) text outcome legal = tt
+pub outcome_found : (r : Result State TraceError) (text : List ℕ) → r ≡ outcome_of (long_bytes fresh text)
+    → IfOk r IsLegalInterface → IfOk r (λ s. IsLongText s text)
+outcome_found (Ok t) text is legal = (accepted_long text t (sym is), legal)
+outcome_found (Err e) text is legal = tt
 
-pub outcome_only : (r : Result Standing TraceError) (s : State) → IsLegalInterface s
-    → IsOutcome r (long_bytes fresh (long_text s)) → IfErr r (λ e. ⊥)
-outcome_only (Ok h) s legal outcome = tt
-outcome_only (Err e) s legal outcome = cc (sym outcome ∙ legal_accepted s legal)
+pub outcome_only : (r : Result State TraceError) (s : State) → IsLegalInterface s
+    → r ≡ outcome_of (long_bytes fresh (long_text s)) → IfErr r (λ e. ⊥)
+outcome_only (Ok t) s legal is = tt
+outcome_only (Err e) s legal is = cc (is ∙ legal_accepted s legal)

@@ -1,7 +1,8 @@
 -- The state of an auditor, from its private fields.
-use Rattle.fr_auditing.specs.Phases.{kept_in, standpoint_of}
-use Rattle.fr_auditing.specs.Tracking.{Kept}
+use Rattle.fr_auditing.specs.Phases.{phase_of}
+use Rattle.fr_auditing.specs.Tracking.{Auditing, auditing}
 use Rattle.fr_auditing.specs.declared.auditor.KeptAuditor.TheInside.{Inside}
+use Rattle.fr_trace.specs.Auditor.{progress_in}
 
-abbrev pub kept_of : Inside → Kept
-kept_of a = kept_in a.fault a.later (standpoint_of a.phase) a.line.items
+abbrev pub auditing_of : Inside → Auditing
+auditing_of a = auditing a.later (progress_in a.fault (phase_of a.phase) a.line.items)

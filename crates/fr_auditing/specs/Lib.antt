@@ -4,5 +4,4 @@ pub mod LongReading
 pub mod LongStream
 pub mod LongText
 pub mod Phases
-pub mod Replaying
 pub mod Tracking

@@ -1,13 +1,14 @@
 //! The plan of a text. One of version 4 may give any room that the numbers of entries allow.
 
-ghost use Rattle.std.specs.Prelude.{◌≡◌};
+ghost use Rattle.std.specs.Prelude.{◌≡◌, ◌≤◌};
 ghost use Rattle.fr_auditing.specs.LongReading.{long_limits_in, long_node_in};
 ghost use Rattle.fr_text.specs.Spaces.{words_of};
 ghost use Rattle.fr_auditing.specs.Tracking.{taken};
 ghost use Rattle.fr_lines.specs.Reading.{node_in};
+ghost use Rattle.fr_trace.specs.Stream.{line_count};
 
 use fr_interface::errors::InterfaceError;
-use fr_interface::state::InterfaceState;
+use fr_interface::interface::LiveInterface;
 use fr_lines::nodes::node_of;
 use fr_lines::plan_lines::{PlanLine, plan_line_of};
 use fr_lines::versions::Version;
@@ -44,6 +45,15 @@ impl Model for LongPlan {
 
     ghost invariant = { λ l. (1 ≤ l.host_entries) × (l.host_entries ≤ last_host_limit) × (2 ≤ l.slot_entries)
         × (l.slot_entries ≤ last_slot_limit) };
+}
+
+/// Returns the number of lines that a plan has after its first.
+pub(crate) fn line_count(plan: &NodePlan) -> u8
+    ensures value { result ≡ line_count plan.now }
+    ensures few { result ≤ 129 }
+{
+    let queue = u8::from(plan.queue().is_some());
+    plan.owned().len() as u8 + plan.buffers().len() as u8 + queue
 }
 
 /// Returns the plan with its own room.
@@ -120,10 +130,8 @@ pub(crate) fn short_node_of(line: &[u8]) -> Option<LongPlan>
 }
 
 impl LongPlan {
-    ghost use Rattle.std.specs.Prelude.{◌≡◌, ◌≤◌, ◌+◌, [], length, is_some, Some, IfOk};
-    ghost use Rattle.fr_interface.specs.Standing.{IsHistory};
+    ghost use Rattle.std.specs.Prelude.{◌≡◌, ◌≤◌, ◌+◌, [], is_some, Some, None, IfOk};
     ghost use Rattle.fr_slots.specs.Faults.{plan_fault};
-    ghost use Rattle.fr_slots.specs.Plans.{IsPlan};
     ghost use Rattle.fr_text.specs.Spaces.{words_of};
     ghost use Rattle.fr_trace.specs.Feeds.{GivesPhase};
     ghost use Rattle.fr_trace.specs.Stream.{line_count, has_owned_alone, lines, after_plan_line};
@@ -134,15 +142,7 @@ impl LongPlan {
         ensures value { result ≡ line_count self.now }
         ensures few { result ≤ 129 }
     {
-        let queue = u8::from(self.plan.queue().is_some());
-        self.plan.owned().len() as u8 + self.plan.buffers().len() as u8 + queue
-    }
-
-    /// Returns the number of buffers.
-    pub(crate) fn buffer_count(&self) -> u8
-        ensures { result ≡ length self.now.buffers }
-    {
-        self.plan.buffers().len() as u8
+        line_count(&self.plan)
     }
 
     /// Returns whether the plan has a fault for these parameters.
@@ -152,21 +152,16 @@ impl LongPlan {
         self.plan.fault(params).is_some()
     }
 
-    /// Returns the data of its interface before any call. Fails if an allocation does.
+    /// Returns its interface without entries. Fails if an allocation does.
     pub(crate) fn interface(
         &self,
         alloc: Global,
         params: &Params,
-    ) -> Result<InterfaceState, InterfaceError>
-        ensures history { IfOk result (λ h. IsHistory h (record {
-          params = params.now;
-          plan = self.now;
-          entries = [];
-        })) }
-        ensures lawful { IsPlan self.now }
+    ) -> Result<LiveInterface, InterfaceError>
+        requires { plan_fault params.now self.now ≡ None }
+        ensures { IfOk result (λ i. i ≡ record { params = params.now; plan = self.now; entries = [] }) }
     {
-        let _tasks = self.plan.tasks();
-        InterfaceState::new(
+        LiveInterface::new(
             alloc,
             params,
             &self.plan,

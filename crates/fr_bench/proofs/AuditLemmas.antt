@@ -14,7 +14,6 @@ use Rattle.fr_bench.specs.Audits.{IsLongTextOf}
 use Rattle.fr_bench.specs.LongStops.{Known, IsReadAs, LongBeginsIn, LongFails, LongRefuses, LongStopsEarly, LongStopsIn}
 use Rattle.fr_bench.specs.Reading.{ReadsBy, Reports}
 use Rattle.fr_bench.specs.Versions.{is_later}
-use Rattle.fr_interface.specs.Standing.{Standing, ForEachHistory}
 use Rattle.fr_interface.specs.State.{State, IsLegalInterface, IsNodeInterface}
 use Rattle.fr_trace.proofs.OutcomeLemmas.{accepted_begins, accepted_text, leaves_audited, leaves_stopped, not_refused}
 use Rattle.fr_trace.specs.Audit.{Audits, IsNotRefused, IsOfText, IsTextOf, Leaves, ReadsThrough, Stops}
@@ -207,15 +206,10 @@ pub by_refused : (later : Bool) (text rest old new : Option (List ℕ)) (e : Tra
 by_refused true text rest old new e h kept = later_refused text rest old new e h kept
 by_refused false text rest old new e h kept = earlier_refused text rest old new e h kept
 
-pub by_reported : (later : Bool) (text rest old new : Option (List ℕ)) (h : Standing) (r : Result (Unit {0}) TraceError)
-    → ReadsBy later text rest (Ok h) → ForEachHistory h (λ s. Reports (report_text s) old new r)
-    → Both later text rest old new r
-by_reported true text rest old new h r reads written =
-    let (s, legal, history, known) = reads in
-    later_reported text rest s legal known old new r (written s history)
-by_reported false text rest old new h r reads written =
-    let (s, legal, history, through) = reads in
-    earlier_reported text rest old new s r through legal (written s history)
+pub by_reported : (later : Bool) (text rest old new : Option (List ℕ)) (s : State) (r : Result (Unit {0}) TraceError)
+    → ReadsBy later text rest (Ok s) → Reports (report_text s) old new r → Both later text rest old new r
+by_reported true text rest old new s r reads written = later_reported text rest s reads.0 reads.1 old new r written
+by_reported false text rest old new s r reads written = earlier_reported text rest old new s r reads.1 reads.0 written
 
 pub found_by : (text old new : Option (List ℕ)) (head : List ℕ) (later : Bool) (r : Result (Unit {0}) TraceError)
     → IfSome text (λ t. is_later t ≡ is_later head) → is_later head ≡ later → FindsBy later text old new r

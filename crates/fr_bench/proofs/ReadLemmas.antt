@@ -7,13 +7,10 @@ use Rattle.std.specs.Io.KnownBytes.{Consumes, Keeps}
 use Rattle.std.specs.Prelude.{IfOk, IfSome}
 use Rattle.fr_auditing.proofs.StreamLemmas.{earlier_bytes, stays_by}
 use Rattle.fr_auditing.specs.LongStream.{byte_by, bytes_by, BeginsBy}
-use Rattle.fr_auditing.specs.Tracking.{Kept, ForEachText, IsOutcome, LeavesEarlier, LeavesText, ReadsOn, Tracks}
-use Rattle.fr_auditing.specs.Tracking.{kept_answer}
-use Rattle.fr_auditing.specs.Tracking as kept
+use Rattle.fr_auditing.specs.Tracking.{Auditing, auditing, IsEarlierText, IsLongText, ReadsOn, Tracks}
 use Rattle.fr_bench.proofs.FaultLemmas.{bytes_by_fault}
 use Rattle.fr_bench.specs.LongStops.{Known, IsReadAs}
 use Rattle.fr_bench.specs.Reading.{HasCome, HasNoFaultBy, IsOver, ReadsBy, SoFar}
-use Rattle.fr_interface.specs.Standing.{Standing}
 use Rattle.fr_interface.specs.State.{State}
 use Rattle.fr_trace.proofs.FaultLemmas.{FailsByText, FaultOfText, outcome_fault}
 use Rattle.fr_trace.specs.Audit.{BeginsIn, FailsIn, HasNoFault, IsNotWrite, IsOfText, ReadsThrough, StopsAtEnd}
@@ -22,7 +19,7 @@ use Rattle.fr_trace.specs.declared.error.TraceError.{TraceError}
 use Rattle.fr_trace.specs.declared.error.TraceError.TheVariants.{BadMagic, BadLine, LineTooLong, Refused, WrongAnswer}
 use Rattle.fr_trace.specs.declared.error.TraceError.TheVariants.{Truncated, Read, Write, Memory}
 use Rattle.fr_trace.specs.Feeds.{IsAtBegin}
-use Rattle.fr_trace.specs.Stream.{Progress, failed, fresh, take_bytes, answer_of, outcome_of}
+use Rattle.fr_trace.specs.Stream.{Progress, reading, failed, fresh, take_bytes, answer_of, outcome_of}
 
 -- ---- known bytes
 
@@ -74,36 +71,35 @@ shown_none (Some text) (Some rest) shown none end kept = (end none, kept ∙ end
 
 -- ---- before the first byte
 
-pub read_none : (later : Bool) (text : Option (List ℕ)) (a : Kept) → Tracks later a fresh → SoFar later text text a
+pub read_none : (later : Bool) (text : Option (List ℕ)) (a : Auditing) → Tracks later a fresh → SoFar later text text a
 read_none later text a tracks = ([], tracks, refl, known_none text)
 
 -- ---- a piece without a fault
 
-no_fault : (later : Bool) (a : Kept) (s : Progress) → Tracks later a s → kept_answer a ≡ Ok tt → answer_of s ≡ Ok tt
-no_fault later (kept.reading kind p line) s tracks fine = ap answer_of tracks.1.1
-no_fault later (kept.failed e) s tracks fine = absurd (let none : ⊥ = cc fine in none)
-
-pub read_more : (later : Bool) (old mid new : Option (List ℕ)) (a b : Kept) (bytes : List ℕ) → SoFar later old mid a
-    → Consumes mid new bytes → ForEachText a (λ kind s. ReadsOn kind s bytes b) → kept_answer b ≡ Ok tt
+pub read_more : (later : Bool) (old mid new : Option (List ℕ)) (a b : Auditing) (bytes : List ℕ)
+    → SoFar later old mid a → Consumes mid new bytes → ReadsOn a bytes b → answer_of b.progress ≡ Ok tt
     → SoFar later old new b
 read_more later old mid new a b bytes so_far consumed feed fine =
-    by_feed (feed later (bytes_by later fresh so_far.0) so_far.1)
+    by_feed (subst (λ (x : Auditing). ReadsOn x bytes b) so_far.1 feed)
   where
-    by_feed : ReadsOn later (bytes_by later fresh so_far.0) bytes b → SoFar later old new b
+    by_feed : ReadsOn (auditing later (bytes_by later fresh so_far.0)) bytes b → SoFar later old new b
     by_feed (inl tracks) =
         let here : Tracks later b (bytes_by later fresh (so_far.0 ++ bytes)) =
-        subst (Tracks later b) (sym (fold-append (byte_by later) fresh so_far.0 bytes)) tracks in (
+        tracks ∙ ap (auditing later) (sym (fold-append (byte_by later) fresh so_far.0 bytes)) in (
           so_far.0 ++ bytes,
           here,
-          no_fault later b (bytes_by later fresh (so_far.0 ++ bytes)) here fine,
+          ap (λ (x : Auditing). answer_of x.progress) (sym here) ∙ fine,
           known_map old new (ComeMore so_far.0 bytes) (HasCome (so_far.0 ++ bytes))
               (λ t r is. is ∙ sym (append_assoc so_far.0 bytes r))
               (known_more old mid new so_far.0 bytes so_far.3 consumed),
         )
-    by_feed (inr out) = absurd (let none : ⊥ = cc (ap kept_answer (sym out.0) ∙ fine) in none)
+    by_feed (inr out) = absurd (failing out.0)
+      where
+        failing : b ≡ auditing later (failed Memory) → ⊥
+        failing is = cc (ap (λ (x : Auditing). answer_of x.progress) (sym is) ∙ fine)
 
 -- an interrupted read takes nothing
-pub read_kept : (later : Bool) (old mid new : Option (List ℕ)) (a : Kept) → SoFar later old mid a → Keeps mid new
+pub read_kept : (later : Bool) (old mid new : Option (List ℕ)) (a : Auditing) → SoFar later old mid a → Keeps mid new
     → SoFar later old new a
 read_kept later old mid new a so_far kept = (
   so_far.0,
@@ -218,9 +214,9 @@ fails_read false text rest e h = fails_through text rest e h
 
 -- ---- a piece with a fault
 
-kept_failed : (a : Kept) (e : TraceError) → kept_answer a ≡ Err e → a ≡ kept.failed e
-kept_failed (kept.reading kind p line) e is = cc is
-kept_failed (kept.failed d) e is = let same : d ≡ e = cc is in ap kept.failed same
+failed_is : (s : Progress) (e : TraceError) → answer_of s ≡ Err e → s ≡ failed e
+failed_is (reading p line) e is = cc is
+failed_is (failed d) e is = let same : d ≡ e = cc is in ap failed same
 
 refused : (later : Bool) (front bytes text rest : List ℕ) (e : TraceError)
     → bytes_by later fresh (front ++ bytes) ≡ failed e → ComeMore front bytes text rest
@@ -230,21 +226,20 @@ refused later front bytes text rest e stuck is =
     ∙ fold-append (byte_by later) fresh (front ++ bytes) rest ∙ ap (λ s. bytes_by later s rest) stuck
     ∙ stays_by later e rest)
 
-pub read_fault : (later : Bool) (old mid new : Option (List ℕ)) (a b : Kept) (bytes : List ℕ) (e : TraceError)
-    → SoFar later old mid a → Consumes mid new bytes → length bytes ≤ 4096
-    → ForEachText a (λ kind s. ReadsOn kind s bytes b) → kept_answer b ≡ Err e → ReadsBy later old new (Err e)
+pub read_fault : (later : Bool) (old mid new : Option (List ℕ)) (a b : Auditing) (bytes : List ℕ) (e : TraceError)
+    → SoFar later old mid a → Consumes mid new bytes → length bytes ≤ 4096 → ReadsOn a bytes b
+    → answer_of b.progress ≡ Err e → ReadsBy later old new (Err e)
 read_fault later old mid new a b bytes e so_far consumed short feed fault =
-    fails_read later old new e (by_feed (feed later (bytes_by later fresh so_far.0) so_far.1))
+    fails_read later old new e (by_feed (subst (λ (x : Auditing). ReadsOn x bytes b) so_far.1 feed))
   where
     come : Known old new (ComeMore so_far.0 bytes)
     come = known_more old mid new so_far.0 bytes so_far.3 consumed
 
-    by_feed : ReadsOn later (bytes_by later fresh so_far.0) bytes b → FailsBy later e old new
+    by_feed : ReadsOn (auditing later (bytes_by later fresh so_far.0)) bytes b → FailsBy later e old new
     by_feed (inl tracks) =
         let stuck : bytes_by later fresh (so_far.0 ++ bytes) ≡ failed e =
         fold-append (byte_by later) fresh so_far.0 bytes
-        ∙ subst (λ (k : Kept). Tracks later k (bytes_by later (bytes_by later fresh so_far.0) bytes))
-        (kept_failed b e fault) tracks in
+        ∙ ap (λ (x : Auditing). x.progress) (sym tracks) ∙ failed_is b.progress e fault in
         let of_text : IsOfText e = subst FailsByText stuck (bytes_by_fault later (so_far.0 ++ bytes) fresh tt) in
         inr (inr (
           of_text,
@@ -255,7 +250,8 @@ read_fault later old mid new a b bytes e so_far consumed short feed fault =
               )) come,
         ))
     by_feed (inr out) =
-        let error : Memory ≡ e = cc (ap kept_answer (sym out.0) ∙ fault) in
+        let answer : Err Memory ≡ Err e = ap (λ (x : Auditing). answer_of x.progress) (sym out.0) ∙ fault in
+        let error : Memory ≡ e = cc answer in
         inr (inl (
           sym error,
           known_map old new (ComeMore so_far.0 bytes) (StopsInBy later (BeginsInBy later))
@@ -264,7 +260,7 @@ read_fault later old mid new a b bytes e so_far consumed short feed fault =
 
 -- ---- the end
 
-pub read_failed : (later : Bool) (old mid new : Option (List ℕ)) (a : Kept) → SoFar later old mid a → Keeps mid new
+pub read_failed : (later : Bool) (old mid new : Option (List ℕ)) (a : Auditing) → SoFar later old mid a → Keeps mid new
     → ReadsBy later old new (Err Read)
 read_failed later old mid new a so_far kept =
     fails_read later old new Read (inl (
@@ -282,41 +278,36 @@ through_all (Some text) (Some rest) front s read fine come = (
   ap (λ (l : List ℕ). outcome_of (take_bytes fresh l)) come.0 ∙ read,
 )
 
-module _ (old mid new : Option (List ℕ)) (a : Kept) (over : Known mid new IsOver) where
-  ended_later : (h : Standing) → SoFar true old mid a
-      → ((text : List ℕ) → Tracks true a (bytes_by true fresh text) → LeavesText h text) → ReadsBy true old new (Ok h)
-  ended_later h so_far found =
-      let (s, is, legal, history) = found so_far.0 so_far.1 in (
-        s,
+module _ (old mid new : Option (List ℕ)) (a : Auditing) (over : Known mid new IsOver) where
+  ended_later : (s : State) → SoFar true old mid a
+      → ((text : List ℕ) → Tracks true a (bytes_by true fresh text) → IsLongText s text) → ReadsBy true old new (Ok s)
+  ended_later s so_far found =
+      let (is, legal) = found so_far.0 so_far.1 in (
         legal,
-        history,
         known_map old new (AllCome so_far.0) (IsReadAs s)
             (λ t r all. (all.0 ∙ is, (all.1, subst (HasNoFaultBy true) (sym all.0) so_far.2)))
             (all_come old mid new so_far.0 so_far.3 over),
       )
 
-  ended_earlier : (h : Standing) → SoFar false old mid a
-      → ((text : List ℕ) → Tracks false a (bytes_by false fresh text) → LeavesEarlier h text)
-      → ReadsBy false old new (Ok h)
-  ended_earlier h so_far found =
-      let (s, read, trace, legal, history) = found so_far.0 so_far.1 in (
-        s,
+  ended_earlier : (s : State) → SoFar false old mid a
+      → ((text : List ℕ) → Tracks false a (bytes_by false fresh text) → IsEarlierText s text)
+      → ReadsBy false old new (Ok s)
+  ended_earlier s so_far found =
+      let (read, trace, legal) = found so_far.0 so_far.1 in (
         legal,
-        history,
         through_all old new so_far.0 s read (no_fault_same so_far.0 so_far.2)
             (all_come old mid new so_far.0 so_far.3 over),
       )
 
-  pub read_end : (later : Bool) (r : Result Standing TraceError) → SoFar later old mid a
-      → ForEachText a (λ kind. IsOutcome r)
-      → ((text : List ℕ) → Tracks false a (bytes_by false fresh text) → IfOk r (λ h. LeavesEarlier h text))
-      → ((text : List ℕ) → Tracks true a (bytes_by true fresh text) → IfOk r (λ h. LeavesText h text))
+  pub read_end : (later : Bool) (r : Result State TraceError) → SoFar later old mid a → r ≡ outcome_of a.progress
+      → ((text : List ℕ) → Tracks false a (bytes_by false fresh text) → IfOk r (λ s. IsEarlierText s text))
+      → ((text : List ℕ) → Tracks true a (bytes_by true fresh text) → IfOk r (λ s. IsLongText s text))
       → ReadsBy later old new r
-  read_end true (Ok h) so_far exact earlier found = ended_later h so_far found
-  read_end false (Ok h) so_far exact earlier found = ended_earlier h so_far earlier
+  read_end true (Ok s) so_far exact earlier found = ended_later s so_far found
+  read_end false (Ok s) so_far exact earlier found = ended_earlier s so_far earlier
   read_end later (Err e) so_far exact earlier found =
       let fault : outcome_of (bytes_by later fresh so_far.0) ≡ Err e =
-      exact later (bytes_by later fresh so_far.0) so_far.1 in
+      ap (λ (x : Auditing). outcome_of x.progress) (sym so_far.1) ∙ sym exact in
       let of_text : IsOfText e =
       subst FaultOfText fault
       (outcome_fault (bytes_by later fresh so_far.0) (bytes_by_fault later so_far.0 fresh tt)) in

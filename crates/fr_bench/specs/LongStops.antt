@@ -2,7 +2,6 @@
 use Rattle.std.specs.Prelude.{◌≡◌, ℕ, ◌≤◌, List, [], ◌++◌, length, Option, Some, None, Result, Ok, Err, ◌⊎◌}
 use Rattle.fr_auditing.specs.LongStream.{long_bytes, LongBegins}
 use Rattle.fr_auditing.specs.LongText.{long_text}
-use Rattle.fr_interface.specs.Standing.{Standing, IsHistory}
 use Rattle.fr_interface.specs.State.{State, IsLegalInterface}
 use Rattle.fr_trace.specs.Audit.{IsOfText}
 use Rattle.fr_trace.specs.declared.error.TraceError.{TraceError}
@@ -57,7 +56,7 @@ LongFails e text rest = ((e ≡ Read) × Known text rest LongStopsEarly)
 abbrev pub IsReadAs : State → List ℕ → List ℕ → Type 0
 IsReadAs s text rest = (text ≡ long_text s) × LongStopsAtEnd text rest
 
--- the result of reading through: the data that the history of a legal interface leaves, or an error
-abbrev pub LongReads : Option (List ℕ) → Option (List ℕ) → Result Standing TraceError → Type 0
-LongReads text rest (Ok h) = (s : State) × IsLegalInterface s × IsHistory h s × Known text rest (IsReadAs s)
+-- the result of reading through: a legal interface, or an error
+abbrev pub LongReads : Option (List ℕ) → Option (List ℕ) → Result State TraceError → Type 0
+LongReads text rest (Ok s) = IsLegalInterface s × Known text rest (IsReadAs s)
 LongReads text rest (Err e) = LongFails e text rest

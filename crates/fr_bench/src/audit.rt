@@ -4,20 +4,20 @@ ghost use Rattle.std.specs.Io.KnownBytes.{Consumes};
 ghost use Rattle.fr_auditing.specs.LongText.{long_text};
 ghost use Rattle.fr_bench.specs.Audits.{Ends, EndsBy, Finds, FindsBy};
 ghost use Rattle.fr_bench.specs.Reading.{Reports};
-ghost use Rattle.fr_interface.specs.Standing.{ForEachHistory};
 ghost use Rattle.fr_interface.specs.State.{State, IsLegalInterface, IsNodeInterface};
 ghost use Rattle.fr_trace.specs.Audit.{IsNotRefused};
 ghost use Rattle.fr_trace.specs.ReportText.{report_text};
 ghost use Rattle.fr_trace.specs.TraceText.{IsTraceOf};
 
 use crate::reading::{head_of, is_later, read_text};
-use fr_auditing::kept::KeptInterface;
 use fr_files::output::write_text;
+use fr_interface::interface::LiveInterface;
 use fr_trace::error::TraceError;
+use fr_trace::report::write_report;
 use std::alloc::Global;
 use std::io::{BufRead, Write};
 
-/// Writes the report of an interface of which only the data are kept.
+/// Writes the report of an interface.
 ///
 /// The report is gathered in memory and then written at once, so that no part of an incomplete report is written.
 ///
@@ -25,15 +25,14 @@ use std::io::{BufRead, Write};
 /// report.
 fn report<W: Write>(
     alloc: Global,
-    interface: &KeptInterface,
+    interface: &LiveInterface,
     writer: &mut W,
 ) -> Result<(), TraceError>
-    ensures { ForEachHistory interface.now (λ s.
-        Reports (report_text s) (W.contents writer.old) (W.contents writer.new) result) }
+    ensures { Reports (report_text interface.now) (W.contents writer.old) (W.contents writer.new) result }
 {
     let mut report = Vec::new(alloc);
     // A list of bytes fails to grow only if an allocation fails.
-    if interface.write_report(&mut report).is_err() {
+    if write_report(interface, &mut report).is_err() {
         return Err(TraceError::Memory);
     }
     match write_text(writer, report.as_slice()) {

@@ -7,7 +7,7 @@ ghost use Rattle.fr_bench.specs.Versions.{Heads, is_later, is_open};
 
 use arrayvec::ArrayVec;
 use fr_auditing::auditor::KeptAuditor;
-use fr_auditing::kept::KeptInterface;
+use fr_interface::interface::LiveInterface;
 use fr_trace::error::TraceError;
 use std::alloc::Global;
 use std::io;
@@ -82,12 +82,12 @@ fn feed_next<R: BufRead>(
     Ok(Some(fed))
 }
 
-/// Returns the data that the rest of a text leaves of its interface. It stops reading at an error, and repeats an
+/// Returns the interface that the rest of a text leaves. It stops reading at an error, and repeats an
 /// interrupted read.
 fn rest_of<R: BufRead>(
     mut auditor: KeptAuditor,
     reader: &mut R,
-) -> Result<KeptInterface, TraceError>
+) -> Result<LiveInterface, TraceError>
     ensures { (later : Bool) (text : Option (List ℕ)) → SoFar later text (R.remaining reader.old) auditor
         → ReadsBy later text (R.remaining reader.new) result }
 {
@@ -104,13 +104,13 @@ fn rest_of<R: BufRead>(
     Err(TraceError::Read)
 }
 
-/// Returns the data that the reader's bytes leave after this head of their text, which is of version 4 if `later`.
+/// Returns the interface that the reader's bytes leave after this head of their text, which is of version 4 if `later`.
 pub(crate) fn read_text<R: BufRead>(
     alloc: Global,
     later: bool,
     head: &[u8],
     reader: &mut R,
-) -> Result<KeptInterface, TraceError>
+) -> Result<LiveInterface, TraceError>
     requires { length head.now ≤ 4096 }
     ensures { (text : Option (List ℕ)) → Consumes text (R.remaining reader.old) head.now
         → ReadsBy later text (R.remaining reader.new) result }

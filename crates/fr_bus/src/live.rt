@@ -98,8 +98,8 @@ impl LiveBus {
     /// 0, slot 1.
     ///
     /// Fails with `BadCycles` for 0 cycles or more than 4,000,000, and for so many that the windows could be more than
-    /// 1,610,612,734. That is the number of cycles, multiplied by the static slots and the minislots of a cycle. Then it
-    /// fails with `Memory` if an allocation fails.
+    /// 1,610,612,734. That is the number of cycles, multiplied by the static slots and the minislots of a cycle. Then
+    /// it fails with `Memory` if an allocation fails.
     pub fn new(alloc: Global, cluster: &Cluster, cycles: u32) -> Result<LiveBus, BusError>
         ensures { OpensLive cluster.now cycles result }
     {

@@ -8,6 +8,7 @@ pub mod KeptLemmas
 pub mod NamingLemmas
 pub mod OpeningLemmas
 pub mod RangeLemmas
+pub mod RoomLemmas
 pub mod ReceiveLemmas
 pub mod SenderLemmas
 pub mod StandingLemmas

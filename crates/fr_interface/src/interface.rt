@@ -19,7 +19,9 @@ use fr_frame::frame::{Bytes, Frame};
 use fr_frame::payload::Payload;
 use fr_journal::entry::{Arrival, Entry, Offered, Origin};
 use fr_journal::fate::Tally;
+use fr_journal::history::History;
 use fr_journal::journal::Journal;
+use fr_past::past::Past;
 use fr_slots::channel::Channel;
 use fr_slots::numbers::{SlotId, TaskId};
 use fr_slots::params::Params;
@@ -48,45 +50,42 @@ pub struct Receipt {
     pub entry: u32,
 }
 
-/// The interface between the tasks of a host and a controller.
+/// The interface between the tasks of a host and a controller, with a history of this kind: [`Interface`] keeps its
+/// calls in a journal, and [`LiveInterface`] keeps none of them.
+///
+/// In contracts both have the same state, with all accepted calls, and the same clauses.
 #[derive(Drop)]
-pub struct Interface {
+pub struct Chi<H: History> {
     state: InterfaceState,
-    journal: Journal,
+    history: H,
 }
 
-impl Model for Interface {
+impl<H: History> Model for Chi<H> {
     ghost use Rattle.fr_interface.specs.State.{State};
 
     ghost Value = { State };
 
     ghost use Rattle.fr_interface.specs.InterfaceFields.{state_in, IsLawful};
 
-    ghost view = { state_in };
+    ghost view = { λ c. state_in c.state (H.told c.history) };
 
-    ghost invariant = { IsLawful };
+    ghost invariant = { λ c. IsLawful c.state (H.told c.history) (H.limits c.history) };
 }
 
-impl Interface {
-    ghost use Rattle.std.specs.Prelude.{◌≡◌, ◌+◌, ◌≤◌, [], None, length, IfOk, IfSome, OnOk, OnErr, option_map};
-    ghost use Rattle.std.specs.Result.{result_err};
-    ghost use Rattle.fr_journal.specs.declared.entry.Entry.TheVariants as entries;
-    ghost use Rattle.fr_journal.specs.Counts.{counters_of};
-    ghost use Rattle.fr_journal.specs.Held.{frame_named, frame_of, origin_of, IsReceivable};
-    ghost use Rattle.fr_journal.specs.Entries.{IsOffered};
-    ghost use Rattle.fr_journal.specs.Offers.{offered, frame_offered, IsHandedOut, bytes_of};
-    ghost use Rattle.fr_interface.specs.Calls.{call_refusal, call_answer, call_entry};
+/// An interface with a journal, which has an entry for each accepted call.
+pub type Interface = Chi<Journal>;
+
+/// An interface whose history only contracts see, so that it needs the same memory for any number of calls
+/// (project-defined).
+pub type LiveInterface = Chi<Past<Entry>>;
+
+impl Chi<Journal> {
+    ghost use Rattle.std.specs.Prelude.{◌≡◌, [], None, IfOk};
+    ghost use Rattle.fr_journal.specs.Held.{frame_named};
     ghost use Rattle.fr_interface.specs.Handing.{bytes_handed};
-    ghost use Rattle.fr_interface.specs.Sending.{outgoing_in, OffersNothing};
-    ghost use Rattle.fr_interface.specs.Sights.{seen_in};
-    ghost use Rattle.fr_interface.specs.State.{with_entry, withdraw_entry, read_entry, pop_entry, fetch_entry};
-    ghost use Rattle.fr_interface.specs.State.{withdraw_refusal};
-    ghost use Rattle.fr_journal.specs.Fate.{pending_commit};
-    ghost use Rattle.fr_interface.specs.State.{received_by, source_of, tally_by, oldest_of, length_of, lost_of};
-    ghost use Rattle.fr_interface.specs.State.{arrived_of, popped_of, queued_of, commit_refusal, read_refusal};
-    ghost use Rattle.fr_slots.specs.Plans.{IsNodePlan};
-    ghost use Rattle.fr_interface.specs.State.{pop_refusal, fetch_refusal, observe_refusal, IsLegalInterface};
+    ghost use Rattle.fr_interface.specs.State.{IsLegalInterface};
     ghost use Rattle.fr_slots.specs.Faults.{plan_fault};
+    ghost use Rattle.fr_slots.specs.Plans.{IsNodePlan};
 
     /// Returns an interface with an empty journal, and reserves all the room that the plan asks for.
     ///
@@ -99,8 +98,121 @@ impl Interface {
         let host = u32::from(plan.host_entries());
         let journal = Journal::with_limits(alloc, host, plan.slot_entries())?;
         let state = InterfaceState::new(alloc, params, plan, host, plan.slot_entries())?;
-        Ok(Interface { state, journal })
+        Ok(Chi {
+            state,
+            history: journal,
+        })
     }
+
+    /// Returns the valid data frame of the origin, an observe and its channel (chapter 9). Returns none if that entry
+    /// isn't an observe, or had no such frame there.
+    pub fn frame_at(&self, origin: Origin) -> Option<Frame>
+        ensures { result ≡ frame_named self.now.params self.now.entries origin }
+    {
+        frame_named(self.state.params(), &self.history, origin)
+    }
+
+    /// Returns the bytes that the fetch of this entry handed to the bus on the channel (chapters 5 and 9). Returns none
+    /// if it handed nothing out there, and if that entry isn't a fetch.
+    pub fn handed_at(&self, entry: u32, channel: Channel) -> Option<Bytes>
+        ensures { result ≡ bytes_handed self.now entry channel }
+    {
+        let told = self.history.get(entry)?;
+        let first = FirstEntries {
+            journal: &self.history,
+            count: entry,
+        };
+        bytes_in_entry(
+            self.state.params(),
+            self.state.plan(),
+            &first,
+            channel,
+            &told,
+        )
+    }
+
+    /// Returns the journal, which has an entry for each accepted call.
+    pub fn journal(&self) -> &Journal
+        ensures entries { result.now.entries ≡ self.now.entries }
+        ensures limits { (result.now.host_limit ≡ self.now.plan.host_entries)
+            × (result.now.slot_limit ≡ self.now.plan.slot_entries) }
+        ensures legal { IsLegalInterface self.now }
+    {
+        &self.history
+    }
+
+    /// Returns the plan of the node.
+    pub fn plan(&self) -> &NodePlan
+        ensures value { result.now ≡ self.now.plan }
+        ensures legal { IsLegalInterface self.now }
+        ensures node { IsNodePlan self.now.plan }
+    {
+        self.state.plan().as_plan()
+    }
+}
+
+impl Chi<Past<Entry>> {
+    ghost use Rattle.std.specs.Prelude.{◌≡◌, ◌≤◌, [], None, IfOk};
+    ghost use Rattle.fr_slots.specs.Faults.{plan_fault};
+    ghost use Rattle.fr_slots.specs.Numbers.{last_host_limit, last_slot_limit};
+    ghost use Rattle.fr_slots.specs.Plans.{IsNodePlan, with_limits};
+
+    /// Returns an interface without entries, with room for so many of the host and of the controller
+    /// (project-defined). The room that the plan gives doesn't count.
+    ///
+    /// The plan must have no fault by `NodePlan::fault` for the parameters. There must be room for 1 to 1,073,741,824
+    /// entries of the host and for 2 to 3,221,225,469 of the controller. Fails only with `Memory`.
+    pub fn new(
+        alloc: Global,
+        params: &Params,
+        plan: &NodePlan,
+        host_entries: u32,
+        slot_entries: u32,
+    ) -> Result<LiveInterface, InterfaceError>
+        requires faultless { plan_fault params.now plan.now ≡ None }
+        requires host { (1 ≤ host_entries) × (host_entries ≤ last_host_limit) }
+        requires slot { (2 ≤ slot_entries) × (slot_entries ≤ last_slot_limit) }
+        ensures { IfOk result (λ i. i ≡ record {
+          params = params.now;
+          plan = with_limits plan.now host_entries slot_entries;
+          entries = [];
+        }) }
+    {
+        // For the prover: the clause of this call.
+        let _entries = plan.slot_entries();
+        let state = InterfaceState::new(alloc, params, plan, host_entries, slot_entries)?;
+        Ok(Chi {
+            state,
+            history: Past::new(),
+        })
+    }
+
+    /// Returns the plan of the node, with its own room.
+    pub fn plan(&self) -> &NodePlan
+        ensures value { with_limits result.now self.now.plan.host_entries self.now.plan.slot_entries ≡ self.now.plan }
+        ensures node { IsNodePlan result.now }
+    {
+        self.state.plan().as_plan()
+    }
+}
+
+impl<H: History> Chi<H> {
+    ghost use Rattle.std.specs.Prelude.{◌≡◌, ◌+◌, ◌≤◌, length, IfOk, IfSome, OnOk, OnErr, option_map};
+    ghost use Rattle.std.specs.Result.{result_err};
+    ghost use Rattle.fr_journal.specs.declared.entry.Entry.TheVariants as entries;
+    ghost use Rattle.fr_journal.specs.Counts.{counters_of};
+    ghost use Rattle.fr_journal.specs.Held.{frame_of, origin_of, IsReceivable};
+    ghost use Rattle.fr_journal.specs.Entries.{IsOffered};
+    ghost use Rattle.fr_journal.specs.Offers.{offered, frame_offered, IsHandedOut, bytes_of};
+    ghost use Rattle.fr_interface.specs.Calls.{call_refusal, call_answer, call_entry};
+    ghost use Rattle.fr_interface.specs.Sending.{outgoing_in, OffersNothing};
+    ghost use Rattle.fr_interface.specs.Sights.{seen_in};
+    ghost use Rattle.fr_interface.specs.State.{with_entry, withdraw_entry, read_entry, pop_entry, fetch_entry};
+    ghost use Rattle.fr_interface.specs.State.{withdraw_refusal};
+    ghost use Rattle.fr_journal.specs.Fate.{pending_commit};
+    ghost use Rattle.fr_interface.specs.State.{received_by, source_of, tally_by, oldest_of, length_of, lost_of};
+    ghost use Rattle.fr_interface.specs.State.{arrived_of, popped_of, queued_of, commit_refusal, read_refusal};
+    ghost use Rattle.fr_interface.specs.State.{pop_refusal, fetch_refusal, observe_refusal, IsLegalInterface};
 
     /// Commits a payload to a transmit buffer for a task (chapter 9). The buffer then holds this commit in place of the
     /// one before, and sends it by its mode.
@@ -120,7 +232,7 @@ impl Interface {
         ensures refused { OnErr result (self.new ≡ self.old) }
     {
         let entry = self.state.commit(task, buffer, payload)?;
-        self.journal.push_commit(task, buffer, payload);
+        self.history.push_commit(task, buffer, payload);
         Ok(Receipt { task, entry })
     }
 
@@ -139,7 +251,7 @@ impl Interface {
         ensures refused { OnErr result (self.new ≡ self.old) }
     {
         let of = self.state.withdraw(task, buffer)?;
-        self.journal.push_host(Entry::Withdraw { task, buffer, of });
+        self.history.push_host(Entry::Withdraw { task, buffer, of });
         Ok(of)
     }
 
@@ -169,7 +281,7 @@ impl Interface {
     {
         let held = self.state.read(task, buffer)?;
         let from = origin_in(&held);
-        self.journal.push_host(Entry::Read { task, buffer, from });
+        self.history.push_host(Entry::Read { task, buffer, from });
         Ok(held)
     }
 
@@ -199,7 +311,7 @@ impl Interface {
     {
         let oldest = self.state.pop(task)?;
         let from = origin_in(&oldest);
-        self.journal.push_host(Entry::Pop { task, from });
+        self.history.push_host(Entry::Pop { task, from });
         Ok(oldest)
     }
 
@@ -392,7 +504,7 @@ impl Interface {
         ensures { self.new ≡ with_entry self.old (fetch_entry self.old window.now) }
     {
         self.state.fetch(window, a, b);
-        self.journal.push_slot(Entry::Fetch {
+        self.history.push_slot(Entry::Fetch {
             window: *window,
             a: a.offered,
             b: b.offered,
@@ -409,7 +521,7 @@ impl Interface {
         ensures refused { OnErr result (self.new ≡ self.old) }
     {
         self.state.observe(number, a, b)?;
-        self.journal.push_observe(number, a, b);
+        self.history.push_observe(number, a, b);
         Ok(())
     }
 
@@ -436,7 +548,7 @@ impl Interface {
         ensures refused { OnErr result (self.new ≡ self.old) }
     {
         self.state.observe_sights(number, a, b)?;
-        push_sights(&mut self.journal, number, a, b);
+        push_sights(&mut self.history, number, a, b);
         Ok(())
     }
 
@@ -476,33 +588,6 @@ impl Interface {
         self.state.oldest()
     }
 
-    /// Returns the valid data frame of the origin, an observe and its channel (chapter 9). Returns none if that entry
-    /// isn't an observe, or had no such frame there.
-    pub fn frame_at(&self, origin: Origin) -> Option<Frame>
-        ensures { result ≡ frame_named self.now.params self.now.entries origin }
-    {
-        frame_named(self.state.params(), &self.journal, origin)
-    }
-
-    /// Returns the bytes that the fetch of this entry handed to the bus on the channel (chapters 5 and 9). Returns none
-    /// if it handed nothing out there, and if that entry isn't a fetch.
-    pub fn handed_at(&self, entry: u32, channel: Channel) -> Option<Bytes>
-        ensures { result ≡ bytes_handed self.now entry channel }
-    {
-        let told = self.journal.get(entry)?;
-        let first = FirstEntries {
-            journal: &self.journal,
-            count: entry,
-        };
-        bytes_in_entry(
-            self.state.params(),
-            self.state.plan(),
-            &first,
-            channel,
-            &told,
-        )
-    }
-
     /// Returns the number of frames in the receive FIFO, at most its capacity (project-defined). Returns none if the
     /// plan has no receive FIFO.
     pub fn queue_len(&self) -> Option<u32>
@@ -531,14 +616,19 @@ impl Interface {
         self.state.counters()
     }
 
-    /// Returns the journal, which has an entry for each accepted call.
-    pub fn journal(&self) -> &Journal
-        ensures entries { result.now.entries ≡ self.now.entries }
-        ensures limits { (result.now.host_limit ≡ self.now.plan.host_entries)
-            × (result.now.slot_limit ≡ self.now.plan.slot_entries) }
+    /// Returns the number of entries.
+    pub fn entries(&self) -> u32
+        ensures { result ≡ length self.now.entries }
+    {
+        self.state.entries()
+    }
+
+    /// Returns the buffers of the plan, in the order of their numbers.
+    pub fn buffers(&self) -> &[Buffer]
+        ensures value { result.now ≡ self.now.plan.buffers }
         ensures legal { IsLegalInterface self.now }
     {
-        &self.journal
+        self.state.plan().as_plan().buffers()
     }
 
     /// Returns the parameters of the cluster.
@@ -547,15 +637,6 @@ impl Interface {
         ensures legal { IsLegalInterface self.now }
     {
         self.state.params()
-    }
-
-    /// Returns the plan of the node.
-    pub fn plan(&self) -> &NodePlan
-        ensures value { result.now ≡ self.now.plan }
-        ensures legal { IsLegalInterface self.now }
-        ensures node { IsNodePlan self.now.plan }
-    {
-        self.state.plan().as_plan()
     }
 }
 

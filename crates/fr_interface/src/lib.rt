@@ -30,10 +30,13 @@
 //!
 //! # Inner workings
 //!
-//! Beside its journal an interface keeps (`state`), for each buffer of the plan, a transmit buffer with tally and last
+//! `Chi` is generic over its history. `Interface` has a journal, which the bench settles at the end of a run, and
+//! `LiveInterface` a past that only contracts see. Both have one state, and one set of clauses.
+//!
+//! Beside its history an interface keeps (`state`), for each buffer of the plan, a transmit buffer with tally and last
 //! commit, or a receive buffer with its last frame. It also keeps the open window (`opening`), the receive FIFO as a
-//! ring, and the status counters. The type states that all these are the ones that the journal gives
-//! (`InterfaceFields`, `IsLawful`). So no call scans the journal, and an old entry is reached by its number. A
+//! ring, and the status counters. The type states that all these are the ones that the history gives
+//! (`InterfaceFields`, `IsLawful`). So no call scans a journal, and an old entry is reached by its number. A
 //! withdrawn commit isn't kept.
 //!
 //! - `sending` has the frames that leave transmit buffers, and `offers` encodes them.

@@ -1,9 +1,9 @@
 //! Observations that are judged once, for all nodes that make them.
 
-ghost use Rattle.std.specs.Prelude.{◌≡◌, ◌<◌, ◌++◌, ◌∷◌, [], IfSome};
+ghost use Rattle.std.specs.Prelude.{◌≡◌, ◌++◌, ◌∷◌, [], IfSome};
 ghost use Rattle.fr_interface.specs.Sights.{seen_in};
 ghost use Rattle.fr_journal.specs.declared.entry.Entry.TheVariants as entries;
-ghost use Rattle.fr_journal.specs.Kept.{slot_room};
+ghost use Rattle.fr_journal.specs.Histories.{HasSlotRoom};
 ghost use Rattle.fr_slots.specs.declared.channel.Channel.TheVariants as Channel;
 ghost use Rattle.fr_status.specs.Checks.{IsCheckSeen};
 
@@ -11,7 +11,7 @@ use crate::interface::seen_within;
 use crate::observed::{Told, is_quiet};
 use fr_frame::frame::Frame;
 use fr_frame::lent::LentFrame;
-use fr_journal::journal::Journal;
+use fr_journal::history::History;
 use fr_slots::channel::Channel;
 use fr_slots::params::Params;
 use fr_slots::window::Window;
@@ -254,32 +254,32 @@ pub(crate) fn checks_in(a: &Sight<'_>, b: &Sight<'_>) -> Option<(u32, u32)>
     }
 }
 
-/// Appends an observe with these observations to the journal, in the reserved room.
-fn push_seen(journal: &mut Journal, number: u32, a: &Seen, b: &Sight<'_>)
-    requires room { 0 < slot_room journal.old }
-    ensures { journal.new ≡ record journal.old {
-      entries = journal.old.entries ++ entries.Observe number a.now (seen_in b.now) ∷ [];
-    } }
+/// Appends an observe with these observations to the history, which has room for it.
+fn push_seen<H: History>(history: &mut H, number: u32, a: &Seen, b: &Sight<'_>)
+    requires room { HasSlotRoom (H.limits history.old) (H.told history.old) }
+    ensures entries { H.told history.new
+        ≡ H.told history.old ++ entries.Observe number a.now (seen_in b.now) ∷ [] }
+    ensures limits { H.limits history.new ≡ H.limits history.old }
 {
     match b {
-        Sight::Own => journal.push_observe(number, a, &Seen::Own),
-        Sight::Conflict => journal.push_observe(number, a, &Seen::Conflict),
-        Sight::Seen(seen) => journal.push_observe(number, a, seen),
-        Sight::Heard(heard) => journal.push_observe(number, a, heard.seen()),
+        Sight::Own => history.push_observe(number, a, &Seen::Own),
+        Sight::Conflict => history.push_observe(number, a, &Seen::Conflict),
+        Sight::Seen(seen) => history.push_observe(number, a, seen),
+        Sight::Heard(heard) => history.push_observe(number, a, heard.seen()),
     }
 }
 
-/// Appends an observe with these observations to the journal, in the reserved room.
-pub(crate) fn push_sights(journal: &mut Journal, number: u32, a: &Sight<'_>, b: &Sight<'_>)
-    requires room { 0 < slot_room journal.old }
-    ensures { journal.new ≡ record journal.old {
-      entries = journal.old.entries ++ entries.Observe number (seen_in a.now) (seen_in b.now) ∷ [];
-    } }
+/// Appends an observe with these observations to the history, which has room for it.
+pub(crate) fn push_sights<H: History>(history: &mut H, number: u32, a: &Sight<'_>, b: &Sight<'_>)
+    requires room { HasSlotRoom (H.limits history.old) (H.told history.old) }
+    ensures entries { H.told history.new
+        ≡ H.told history.old ++ entries.Observe number (seen_in a.now) (seen_in b.now) ∷ [] }
+    ensures limits { H.limits history.new ≡ H.limits history.old }
 {
     match a {
-        Sight::Own => push_seen(journal, number, &Seen::Own, b),
-        Sight::Conflict => push_seen(journal, number, &Seen::Conflict, b),
-        Sight::Seen(seen) => push_seen(journal, number, seen, b),
-        Sight::Heard(heard) => push_seen(journal, number, heard.seen(), b),
+        Sight::Own => push_seen(history, number, &Seen::Own, b),
+        Sight::Conflict => push_seen(history, number, &Seen::Conflict, b),
+        Sight::Seen(seen) => push_seen(history, number, seen, b),
+        Sight::Heard(heard) => push_seen(history, number, heard.seen(), b),
     }
 }

@@ -5,6 +5,7 @@ pub mod Entries
 pub mod Fate
 pub mod Forms
 pub mod Held
+pub mod Histories
 pub mod JournalFields
 pub mod Kept
 pub mod Legal

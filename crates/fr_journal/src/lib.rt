@@ -18,6 +18,7 @@
 //!
 //! - `Entries`, `Fate`, `Offers`, `Held`, `Arrivals`, `Counts`, `Legal`: the kinds of entries; the fate of a commit;
 //!   offers; held frames; the receive FIFO; status counters; legal journals.
+//! - `Histories`: the room of a history, and the entries that notes tell.
 //!
 //! Modules that follow the steps of the code, for private functions, with the module that has the meaning:
 //!
@@ -36,10 +37,14 @@
 //! - `closed_window` reads two entries, since a short observe has the place of the last fetch or observe before it
 //!   (`MarkLemmas`).
 //! - `push_commit` and `push_observe` take their bytes by reference.
+//!
+//! A `History` (`history`) is what an interface adds its entries to: a journal, or a past of `fr_past`, which takes no
+//! memory. Notes that borrow a payload or observations tell a past its entries, so nothing is copied for it.
 #![tactic(auto)]
 
 pub mod entry;
 pub mod fate;
+pub mod history;
 pub mod journal;
 pub mod lent;
 mod short;

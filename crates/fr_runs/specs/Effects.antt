@@ -37,8 +37,8 @@ abbrev pub is_turned : Option ℕ → List ℕ → Bool
 is_turned None bytes = false
 is_turned (Some bit) bytes = nat_lt (bit / 8) (length bytes)
 
--- A bit of the transmission was flipped: it alone passed on its channel, and the bit is in its bytes. It may be too long
--- for its slot.
+-- A bit of the transmission was flipped: it alone passed on its channel, and the bit is in its bytes. It may be too
+-- long for its slot.
 abbrev pub is_flipped : Recorded → Sent → Bool
 is_flipped r t = passed_on t.channel t && nat_le (count_by (passed_on t.channel) r.sent) 1
     && is_turned (corrupt_on r t.channel) t.bytes.items

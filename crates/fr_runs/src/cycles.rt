@@ -48,8 +48,8 @@ impl RunCycles {
         }
     }
 
-    /// Returns these cycles, without those that a run of so many cycles lacks (project-defined). A single cycle stays as
-    /// it is.
+    /// Returns these cycles, without those that a run of so many cycles lacks (project-defined). A single cycle stays
+    /// as it is.
     pub fn within(self, cycles: u16) -> RunCycles
         ensures within { result ≡ cycles_within cycles self }
         ensures same { (cycle : ℕ) → cycle < cycles → names_cycle result cycle ≡ names_cycle self cycle }

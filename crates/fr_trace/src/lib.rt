@@ -42,6 +42,6 @@ pub mod audit;
 pub mod auditor;
 pub mod error;
 pub mod pieces;
-mod replay;
+pub mod replay;
 pub mod report;
 pub mod trace;

@@ -8,8 +8,9 @@ ghost use Rattle.fr_journal.specs.Held.{origin_of};
 ghost use Rattle.fr_lines.specs.Bare.{with_bytes};
 
 use crate::error::TraceError;
-use fr_interface::interface::Interface;
+use fr_interface::interface::Chi;
 use fr_journal::entry::{Arrival, Origin};
+use fr_journal::history::History;
 use fr_lines::bare::{BareEntry, EntryBytes};
 
 /// Returns the origin of a frame that arrived.
@@ -21,7 +22,11 @@ fn origin_in(arrival: &Option<Arrival>) -> Option<Origin>
 
 /// Makes the call of the entry, and returns whether its answers are those of the entry. `None` if the interface refuses
 /// the call.
-fn answers_as_told(interface: &mut Interface, told: &BareEntry, bytes: &EntryBytes) -> Option<bool>
+fn answers_as_told<H: History>(
+    interface: &mut Chi<H>,
+    told: &BareEntry,
+    bytes: &EntryBytes,
+) -> Option<bool>
     ensures answer { result ≡ answer_of interface.old (with_bytes bytes.now told.now) }
     ensures made { IfSome result (λ answered.
         interface.new ≡ with_entry interface.old (made_by interface.old (with_bytes bytes.now told.now))) }
@@ -54,9 +59,12 @@ fn answers_as_told(interface: &mut Interface, told: &BareEntry, bytes: &EntryByt
     }
 }
 
-/// Makes the call of the entry on the line of this number, and compares its answers.
-pub(crate) fn replay(
-    interface: &mut Interface,
+/// Makes the call of the entry on the line of this number, and compares its answers (project-defined).
+///
+/// Fails with `Refused` if the interface refuses the call, and with `WrongAnswer` if its answers aren't those of the
+/// entry. Both name the line.
+pub fn replay<H: History>(
+    interface: &mut Chi<H>,
     told: &BareEntry,
     bytes: &EntryBytes,
     line: u64,

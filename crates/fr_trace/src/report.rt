@@ -8,9 +8,10 @@ ghost use Rattle.fr_trace.specs.ReportText.{held_words, queue_report, report_tex
 ghost use Rattle.fr_lines.specs.Spelling.{line_text};
 
 use crate::error::TraceError;
-use fr_interface::interface::Interface;
+use fr_interface::interface::Chi;
 use fr_journal::entry::Arrival;
 use fr_journal::fate::Tally;
+use fr_journal::history::History;
 use fr_slots::channel::Channel;
 use fr_text::hexes::write_hex;
 use std::io;
@@ -42,7 +43,11 @@ fn write_transmit<W: Write>(writer: &mut W, number: u8, tally: &Tally) -> io::Re
 }
 
 /// Writes the line of a buffer, from the answers of the interface.
-fn write_buffer<W: Write>(interface: &Interface, writer: &mut W, number: u8) -> io::Result<()>
+fn write_buffer<H: History, W: Write>(
+    interface: &Chi<H>,
+    writer: &mut W,
+    number: u8,
+) -> io::Result<()>
     ensures { Writes W.contents writer.old writer.new result
         (line_text (answer_words number (tally_by interface.now number) (received_by interface.now number))) }
 {
@@ -53,10 +58,10 @@ fn write_buffer<W: Write>(interface: &Interface, writer: &mut W, number: u8) -> 
 }
 
 /// Writes the lines of the buffers.
-fn write_buffers<W: Write>(interface: &Interface, writer: &mut W) -> io::Result<()>
+fn write_buffers<H: History, W: Write>(interface: &Chi<H>, writer: &mut W) -> io::Result<()>
     ensures { Writes W.contents writer.old writer.new result (reports_from interface.now 0 interface.now.plan.buffers) }
 {
-    let count = interface.plan().buffers().len() as u8;
+    let count = interface.buffers().len() as u8;
     for number in 0..count {
         write_buffer(interface, writer, number)?;
     }
@@ -64,7 +69,7 @@ fn write_buffers<W: Write>(interface: &Interface, writer: &mut W) -> io::Result<
 }
 
 /// Writes the line of the receive FIFO, if there is one.
-fn write_queue<W: Write>(interface: &Interface, writer: &mut W) -> io::Result<()>
+fn write_queue<H: History, W: Write>(interface: &Chi<H>, writer: &mut W) -> io::Result<()>
     ensures { Writes W.contents writer.old writer.new result (queue_report interface.now interface.now.plan.queue) }
 {
     match (interface.queue_len(), interface.queue_lost()) {
@@ -95,7 +100,7 @@ fn write_errors<W: Write>(
 }
 
 /// Writes the lines of both channels.
-fn write_channels<W: Write>(interface: &Interface, writer: &mut W) -> io::Result<()>
+fn write_channels<H: History, W: Write>(interface: &Chi<H>, writer: &mut W) -> io::Result<()>
     ensures { Writes W.contents writer.old writer.new result (channels_report interface.now) }
 {
     let counters = interface.counters();
@@ -104,7 +109,7 @@ fn write_channels<W: Write>(interface: &Interface, writer: &mut W) -> io::Result
 }
 
 /// Writes the whole report.
-fn write_lines<W: Write>(interface: &Interface, writer: &mut W) -> io::Result<()>
+fn write_lines<H: History, W: Write>(interface: &Chi<H>, writer: &mut W) -> io::Result<()>
     ensures { Writes W.contents writer.old writer.new result (report_text interface.now) }
 {
     write_buffers(interface, writer)?;
@@ -112,13 +117,16 @@ fn write_lines<W: Write>(interface: &Interface, writer: &mut W) -> io::Result<()
     write_channels(interface, writer)
 }
 
-/// Writes the report of an interface.
+/// Writes the report of an interface, whatever its history.
 ///
 /// It has a line for each buffer in order of their numbers, one for the receive FIFO if there is one, and one for each
 /// channel.
 ///
 /// Returns `Write` if the writer fails. A part of the report may then have been written.
-pub fn write_report<W: Write>(interface: &Interface, writer: &mut W) -> Result<(), TraceError>
+pub fn write_report<H: History, W: Write>(
+    interface: &Chi<H>,
+    writer: &mut W,
+) -> Result<(), TraceError>
     ensures written { Writes W.contents writer.old writer.new result (report_text interface.now) }
     ensures refused { IfErr result (λ e. e ≡ TraceError.Write) }
 {

@@ -1,7 +1,7 @@
 use Rattle.std.proofs.Common.{rules, ◌≡◌, Some, None, Ok, Err, sym, subst}
 use Rattle.std.proofs.KnownBytes.{Keeps-refl}
 use Rattle.std.specs.Io.KnownBytes.{Keeps}
-use Rattle.fr_auditing.specs.Tracking.{Kept}
+use Rattle.fr_auditing.specs.Tracking.{Auditing}
 use Rattle.fr_bench.proofs.ReadLemmas.{read_end, read_failed, read_fault, read_kept, read_more}
 use Rattle.fr_bench.specs.Reading.{FeedsNext, SoFar}
 use Rattle.fr_bench.proofs.reading.rest_of.Goals.{in-Ok-Some-Ok, in-Err+then-eq}
@@ -20,7 +20,7 @@ pub returns-in-Ok-None : goal.returns-in-Ok-None
 returns-in-Ok-None g c later text so_far =
     let fed : FeedsNext None (g.R.Read.remaining c.pieces.reader) (g.R.Read.remaining c.feed_next.new.reader)
     c.pieces.auditor c.feed_next.new.auditor = search rules in
-    let before = subst (λ (a : Kept). SoFar later text (g.R.Read.remaining c.pieces.reader) a) (sym fed.1)
+    let before = subst (λ (a : Auditing). SoFar later text (g.R.Read.remaining c.pieces.reader) a) (sym fed.1)
     (c.pieces.invariant later text so_far) in
     read_end text (g.R.Read.remaining c.pieces.reader) (g.R.Read.remaining c.feed_next.new.reader)
     c.feed_next.new.auditor fed.0 later c.finish.result before c.finish.ensures.exact c.finish.ensures.earlier
@@ -47,7 +47,7 @@ pieces-preserved g c =
           let kept : Keeps (g.R.Read.remaining c.pieces.reader) (g.R.Read.remaining c.feed_next.new.reader) =
           search rules in
           let same : c.feed_next.new.auditor ≡ c.pieces.auditor = search rules in
-          subst (λ (a : Kept). SoFar later text (g.R.Read.remaining c.feed_next.new.reader) a) (sym same)
+          subst (λ (a : Auditing). SoFar later text (g.R.Read.remaining c.feed_next.new.reader) a) (sym same)
           (read_kept later text (g.R.Read.remaining c.pieces.reader) (g.R.Read.remaining c.feed_next.new.reader)
           c.pieces.auditor (c.pieces.invariant later text so_far) kept)
     ]

@@ -1,8 +1,7 @@
-use Rattle.std.proofs.Common.{◌≡◌, ◌<◌, ◌∙◌, sym, subst, ap, arith, take, length, List, ℕ}
+use Rattle.std.proofs.Common.{◌≡◌, ◌<◌, sym, subst, ap, arith, take, length, List, ℕ}
 use Rattle.std.specs.Io.KnownBytes.{Appends}
 use Rattle.std.proofs.KnownBytes.{Appends-nil, Appends-trans}
 use Rattle.fr_interface.specs.State.{received_by, tally_by}
-use Rattle.fr_slots.specs.Plans.{Plan}
 use Rattle.fr_trace.specs.ReportText.{answer_words, reports_from}
 use Rattle.fr_lines.specs.Spelling.{line_text}
 use Rattle.fr_trace.proofs.ReportLemmas.{report-more, report-none}
@@ -20,8 +19,7 @@ loop-number-preserved g c =
     let old = g.W.Write.contents c.args.writer.now in
     let mid = g.W.Write.contents c.loop-number.writer in
     let new = g.W.Write.contents c.write_buffer.new.writer in
-    let buffers : c.buffers.result.now ≡ s.plan.buffers = c.buffers.ensures.value ∙ ap (λ (p : Plan). p.buffers)
-    c.plan.ensures.value in
+    let buffers : c.buffers.result.now ≡ s.plan.buffers = c.buffers.ensures.value in
     let lt : place < length s.plan.buffers = omega (arith, ap length buffers, c.loop-number-test.true) in
     subst (λ (t : List ℕ). Appends old new t) (sym (report-more s place lt))
     (Appends-trans old mid new (reports_from s 0 (take place s.plan.buffers))

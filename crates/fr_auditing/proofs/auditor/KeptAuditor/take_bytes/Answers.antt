@@ -4,13 +4,13 @@ use Rattle.std.proofs.lemmas.Bool.{eqb-true}
 use Rattle.std.proofs.lemmas.List.{take_rest}
 use Rattle.fr_auditing.proofs.CutLemmas.{reads_more}
 use Rattle.fr_auditing.proofs.StreamLemmas.{plain_same}
-use Rattle.fr_auditing.specs.Tracking.{ForEachText, ReadsOn, Tracks}
+use Rattle.fr_auditing.specs.Tracking.{auditing, ReadsOn}
 use Rattle.fr_text.specs.Plain.{has_no_feed}
 use Rattle.fr_trace.proofs.CutLemmas.{no_feed, no_feed_before, piece_cut}
 use Rattle.fr_auditing.proofs.auditor.KeptAuditor.take_bytes.Goals as goal
 
 pub loop-at-init : goal.loop-at-init
-loop-at-init c = ([], refl, λ later s tracks. inl tracks)
+loop-at-init c = ([], refl, inl refl)
 
 pub take_line-requires : goal.take_line-requires
 take_line-requires c =
@@ -37,21 +37,19 @@ loop-at-preserved c =
       front ++ (take at rest ++ 10 ∷ []),
       ap (λ t. (front ++ (take at rest ++ 10 ∷ [])) ++ t) all
           ∙ piece_cut front rest c.args.piece.now at whole within feed,
-      λ later s tracks. reads_more later s front (take at rest ++ 10 ∷ []) c.loop-at.self c.take_line.new.self
-          (read later s tracks)
-          (subst (λ (t : List ℕ). ForEachText c.loop-at.self (λ kind u. ReadsOn kind u t c.take_line.new.self)) line
-          c.take_line.ensures),
+      reads_more c.args.self.now c.loop-at.self c.take_line.new.self front (take at rest ++ 10 ∷ []) read
+          (subst (λ (t : List ℕ). ReadsOn c.loop-at.self t c.take_line.new.self) line c.take_line.ensures),
     )
 
 pub add-requires : goal.add-requires
 add-requires c = no_feed c.loop-at.rest.now (λ k lt feed. c.in_default.ensures k (omega arith) lt feed)
 
 pub returns : goal.returns
-returns c later s tracks =
+returns c =
     let (front, whole, read) = c.loop-at.invariant in
     let rest = c.loop-at.rest.now in
+    let a = c.loop-at.self in
     let plain : has_no_feed rest ≡ true = no_feed rest (λ k lt feed. c.in_default.ensures k (omega arith) lt feed) in
-    subst (λ (p : List ℕ). ReadsOn later s p c.add.new.self) whole
-    (reads_more later s front rest c.loop-at.self c.add.new.self (read later s tracks)
-    (λ kind t there. inl (subst (Tracks kind c.add.new.self) (sym (plain_same kind rest t plain))
-    (c.add.ensures kind t there))))
+    subst (λ (p : List ℕ). ReadsOn c.args.self.now p c.add.new.self) whole
+    (reads_more c.args.self.now a c.add.new.self front rest read
+    (inl (c.add.ensures ∙ ap (auditing a.later) (sym (plain_same a.later rest a.progress plain)))))
