@@ -16,10 +16,13 @@
 //! # Definitions
 //!
 //! - `Failures`: the text and the exit status of each failure of `fr_monitor`.
+//! - `Ends`: the rules that the words of a command ask for, and the exit status of each end.
 #![tactic(auto)]
 
+mod audit;
 mod failure;
 
+use audit::end_status;
 use failure::MonitorFailure;
 use fr_cli::monitor::{MonitorCommand, command_of};
 use fr_cli::standard::hold_standard;
@@ -27,8 +30,6 @@ use fr_cli::waiting::{WaitingReader, WaitingWriter};
 use fr_cli::words::{texts_of, words_given};
 use fr_files::cluster_file::cluster_of;
 use fr_files::named::file_named;
-use fr_judging::rules::Rules;
-use fr_monitoring::monitor::monitor;
 use fr_schedule::cluster::Cluster;
 use std::io;
 use std::io::BufWriter;
@@ -46,23 +47,16 @@ fn cluster_in<R: Files + AllocGlobal>(
 }
 
 /// Audits standard input by the command's cluster. Returns whether there is a finding.
-fn audit<R: Files + Input + Print + AllocGlobal + Clock>(
+fn audit_input<R: Files + Input + Print + AllocGlobal + Clock>(
     rt: &R,
     command: &MonitorCommand<'_>,
 ) -> Result<bool, MonitorFailure> {
     let cluster = cluster_in(rt, command)?;
-    let rules = Rules::new(
-        cluster,
-        u64::from(command.findings),
-        command.whole,
-        command.channel,
-        command.macrotick,
-    );
     let mut reader = WaitingReader::new(rt, rt.reader());
     let Ok(mut writer) = BufWriter::new(rt.alloc(), WaitingWriter::new(rt, io::writer(rt))) else {
         return Err(MonitorFailure::Memory);
     };
-    let audited = monitor(rt.alloc(), rules, command.frames, &mut reader, &mut writer);
+    let audited = audit::audit(rt.alloc(), cluster, command, &mut reader, &mut writer);
     // The rest of a failed write is dropped, so that nothing comes after the failure.
     let _left = writer.into_parts();
     Ok(audited?)
@@ -74,17 +68,14 @@ fn run<R: Env + Files + Input + Print + AllocGlobal + Clock>(
 ) -> Result<bool, MonitorFailure> {
     let words = words_given(rt)?;
     let texts: Vec<&str> = texts_of(rt.alloc(), words.as_slice())?;
-    audit(rt, &command_of(rt.alloc(), texts.as_slice())?)
+    audit_input(rt, &command_of(rt.alloc(), texts.as_slice())?)
 }
 
 fn main(rt: HostRuntime) -> ExitCode {
     let _held = hold_standard(&rt);
-    match run(&rt) {
-        Ok(false) => ExitCode::SUCCESS,
-        Ok(true) => ExitCode::from(3),
-        Err(failure) => {
-            let _ = eprintln!(rt; "{failure}");
-            ExitCode::from(failure.status())
-        }
+    let ended = run(&rt);
+    if let Err(failure) = &ended {
+        let _ = eprintln!(rt; "{failure}");
     }
+    ExitCode::from(end_status(&ended))
 }
