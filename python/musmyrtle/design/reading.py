@@ -113,7 +113,7 @@ class NetworkReading:
         """Yields the tables of an array at the top of the file."""
         held = self.document.get(key, [])
         if not isinstance(held, list) or not 1 <= len(held) <= most:
-            found = f"`{key}` is an array of {len(held)}" if isinstance(held, list) and held else f"no `[[{key}]]`"
+            found = f"{len(held)} tables `[[{key}]]`" if isinstance(held, list) and held else f"no `[[{key}]]`"
             found = found if isinstance(held, list) else f"`{key}`, which is {shown(held)}"
             self.fault(f"Bad{key.capitalize()}", f"the file has {found}",
                        f"Expected 1 to {most} tables `[[{key}]]`.", (key,))
@@ -320,7 +320,7 @@ class MessageReading:
             return None
         key, value = given[0], exact_in_file(self.table[given[0]])
         if value is None or value <= 0:
-            self.wrong(key, "Expected a number above 0.")
+            self.wrong(key, "Expected a number above 0, of at most a million million.")
             return None
         if key.endswith("cycles"):
             if value.denominator == 1 and value <= LONGEST_TIME:
