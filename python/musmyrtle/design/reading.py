@@ -318,19 +318,16 @@ class MessageReading:
             self.contradiction(f"{self.who} has `{given[0]}` and `{given[1]}`", "Expected one of both.", *given)
         if not given:
             return None
-        key, value = given[0], exact_in_file(self.table[given[0]])
-        if value is None or value <= 0:
-            self.wrong(key, "Expected a number above 0, of at most a million million.")
-            return None
+        key, value = given[0], exact_in_file(self.table[given[0]]) or Fraction(0)
         if key.endswith("cycles"):
-            if value.denominator == 1 and value <= LONGEST_TIME:
+            if value.denominator == 1 and 1 <= value <= LONGEST_TIME:
                 return -int(value)
-            self.wrong(key, "Expected a whole number of cycles.")
+            self.wrong(key, "Expected a whole number of cycles, at least 1.")
             return None
         macrotick = exact_in_file(self.network.network.macrotick_us) or Fraction(1)
         found = value * 1000 / macrotick
         if not 1 <= found <= LONGEST_TIME:
-            self.wrong(key, "Expected a time of at least one macrotick, and at most twelve days.")
+            self.wrong(key, "Expected milliseconds above 0: at least one macrotick, and at most 2^40 macroticks.")
             return None
         return int(found)
 
