@@ -1,7 +1,8 @@
 """The one language of the words that select: cycles, places, nodes and buffers, in filters and campaigns of faults.
 
 Parts are separated by commas: cycles are `0-10/2,13`, places `s3-5,d7,m*`, nodes `brake,0,3-5`, and buffers
-`brake.force,2.0-1`. A range is `C-D`, or `C-D/STEP` for each STEPth number from C on, as in a scenario.
+`brake.force,2.0-1`. A range is `C-D`, or `C-D/STEP` for each STEPth number from C on, as in a scenario. `*` stands for
+every cycle and for every window.
 """
 import re
 from argparse import ArgumentTypeError
@@ -16,7 +17,8 @@ ALL = "all"
 """The place of all that a node sends, in campaigns alone."""
 SPAN = re.compile(r"([0-9]{1,4})(?:-([0-9]{1,4})(?:/([0-9]{1,4}))?)?")
 SEGMENTS = "smd"
-RIGHT_PLACES = "static slots as 1 or s3-5, dynamic slots as d7, minislots as m4, s* or m*"
+RIGHT_PLACES = "static slots as 1 or s3-5, dynamic slots as d7, minislots as m4, s*, m* or *"
+CHANNELS = "AB"
 
 
 @dataclass(frozen=True)
@@ -85,10 +87,16 @@ def cycles_of(word: str) -> SelectedCycles:
     return named
 
 
+def some_cycles(word: str) -> SelectedCycles | None:
+    """Returns the cycles of a text such as `0-10/2,13`, or None for all if a part is `*`. Raises `ArgumentTypeError`.
+    """
+    some = [it for it in word.split(",") if it != EVERY]
+    found = cycles_of(",".join(some)) if some else None
+    return None if EVERY in word else found
+
+
 def why_no_cycles(part: str) -> str:
     """Returns why a part of a word has no cycles."""
-    if part == EVERY:
-        return f"{part!r} isn't taken here: without the option all cycles are selected"
     found = SPAN.fullmatch(part)
     if found and found[2] and int(found[1]) > int(found[2]):
         return f"{part!r} has no cycle, since {found[1]} is above {found[2]}"
@@ -109,7 +117,7 @@ def cycles_in(word: str, cycles: int) -> Sequence[int]:
 class Place:
     """Some windows of a cycle: static slots `s`, dynamic slots `d`, minislots `m`, or slots of either sort.
 
-    The segment is empty for slots by number alone. The numbers are None for all of the segment.
+    The segment is empty for slots by number alone. The numbers are None for all of the segment, or for all windows.
     """
 
     segment: str
@@ -117,7 +125,9 @@ class Place:
 
     @classmethod
     def of(cls, part: str) -> "Place | None":
-        """Returns the place of a part such as `3-5`, `s3`, `d7`, `m4` or `m*`, or None for another one."""
+        """Returns the place of a part such as `3-5`, `s3`, `d7`, `m4`, `m*` or `*`, or None for another one."""
+        if part == EVERY:
+            return cls("", None)
         if part in (EVERY_STATIC, EVERY_DYNAMIC):
             return cls(part[0], None)
         segment = part[:1] if part[:1] and part[:1] in SEGMENTS else ""
@@ -127,7 +137,7 @@ class Place:
     def has(self, slot: int | None, minislot: int | None, is_static: bool) -> bool:
         """Returns whether a window is one of these, by its slot and its minislot, either of which may be unknown."""
         if self.span is None:
-            return is_static == (self.segment == "s")
+            return not self.segment or is_static == (self.segment == "s")
         if self.segment == "m":
             return minislot in self.span.numbers
         is_right = not self.segment or is_static == (self.segment == "s")
@@ -157,12 +167,12 @@ def single_slot(places: tuple[Place, ...]) -> int | None:
 def places_of(word: str) -> frozenset[str]:
     """Returns the places of faults of a text such as `1,s3-5,d7,m*,all`, where a number alone is a static slot.
 
-    Raises `ArgumentTypeError`.
+    Every window is all that a node sends. Raises `ArgumentTypeError`.
     """
     found: set[str] = set()
     for part in word.split(","):
-        if part == ALL:
-            found.add(part)
+        if part in (ALL, EVERY):
+            found.add(ALL)
             continue
         try:
             place = place_in(part)
@@ -173,6 +183,17 @@ def places_of(word: str) -> frozenset[str]:
         else:
             found |= {f"{place.segment or 's'}{number}" for number in place.span.numbers}
     return frozenset(found)
+
+
+# ---- channels
+
+
+def channels_of(word: str) -> str:
+    """Returns the channels of a text such as `A`, `AB` or `A,B`, in this order. Raises `ArgumentTypeError`."""
+    for part in word.split(","):
+        if part not in (*CHANNELS, CHANNELS):
+            raise ArgumentTypeError(f"{part!r} is no channel: expected A, B or AB")
+    return "".join(it for it in CHANNELS if it in word)
 
 
 # ---- nodes and buffers

@@ -22,7 +22,7 @@ ALL = "\x14"
 TYPED = (
     ("comp\t", "completion"), (f"co{ALL}", "commits completion"), (ALL, COMMANDS),
     (f"help co{ALL}", "help commits completion"), ("log --cha\t", "log --channel"),
-    (f"log --channel {ALL}", "log --channel A B"), ("log --channel=A\t", "log --channel=A"),
+    (f"log --channel {ALL}", "log --channel A AB B"), ("log --channel=B\t", "log --channel=B"),
     ("completion b\t", "completion bash"), ("man --h\t", "man --help"), ("check --j\t", "check --json"),
     ("check clu\t", "check cluster.toml"), ("check the\t", "check the~file.toml"),
     ("check fol\tin\t", "check folder/inner.toml"), ("lint cluster.toml sce\t", "lint cluster.toml scenario"),

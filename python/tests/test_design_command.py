@@ -104,6 +104,19 @@ class Made(Designs):
         self.assertEqual([(it["bytes"], [(s["name"], s["bit"], s["bits"]) for s in it["signal"]]) for it in frames],
                          [(3, [("level", 0, 12), ("fuel", 12, 8)])])
 
+    def test_the_bound_of_frames_holds_for_their_lengths(self) -> None:
+        # Three signals of 12, 12 and 8 bits fit into one frame of 8 words, and the alarm's into one of 32 bytes.
+        either = LEVEL.replace("level", "fuel").replace("bits = 12", "bits = 8")
+        on_a = LEVEL.replace("level", "oil").replace("bits = 12", 'bits = 12\nchannels = "A"')
+        event = LEVEL.replace("level", "trip").replace("bits = 12", "bits = 12\nsporadic = true")
+        for text, expected in (
+                (LEVEL + either + on_a,
+                 "3 signals have 2 frames, and no packing into static frames of 16 bytes has fewer than 1"),
+                (LEVEL + event, "2 signals have 2 frames, and no packing into static frames of 16 bytes and dynamic "
+                                "frames of at most 32 bytes has fewer than 2")):
+            notes = [it["note"] for it in self.designed(NETWORK + text)[1] if it["kind"] == "note"]
+            self.assertIn(expected, notes)
+
     def test_big_endian_signals_take_whole_bytes(self) -> None:
         text = NETWORK + LEVEL + LEVEL.replace("level", "fuel").replace("bits = 12", 'bits = 10\norder = "big"')
         frame = self.made(text)["frame"][0]
@@ -196,6 +209,14 @@ class Missed(Designs):
                          "A, with idle ones, and there are 40; at least 55 minislots in a cycle of this length, longer "
                          "deadlines, or shorter frames")
 
+    def test_minislots_that_the_cycle_has_no_room_for_are_no_help(self) -> None:
+        # Two slots of 28 macroticks and 2 of idle time leave 942 for minislots of 5, so 188; the logs need 195.
+        logs = "".join(message(f"log{it}", "engine", "sporadic = true", "bytes = 100", "deadline_cycles = 2",
+                               "period_cycles = 2", 'channels = "A"') for it in range(14))
+        text = NETWORK.replace("cycle_mt = 5000", "cycle_mt = 1000").replace("deadline_ms = 6", 'channels = "A"')
+        found = self.misses(text + logs.replace("period_ms = 10\n", ""))
+        self.assertIn("; longer deadlines, or shorter frames", found[0])
+
     def test_a_late_slot_names_the_frames_before_it(self) -> None:
         log = message("log", "engine", "sporadic = true", "bytes = 100", "deadline_ms = 5.15", 'channels = "A"')
         more = message("dump", "engine", "sporadic = true", "bytes = 100", "deadline_ms = 5.15", 'channels = "A"')
@@ -232,6 +253,8 @@ class Refused(Designs):
                  '2:1: refused UnknownKey: `[params]` has the unknown key "cycle_ms"'),
                 (("deadline_ms = 6", "deadline_ms = 0"),
                  "32:1: refused BadMessage: `deadline_ms` of message alarm is 0"),
+                (("period_ms = 20", "period_ms = 1e200"),
+                 "31:1: refused BadMessage: `period_ms` of message alarm is 1e+200"),
                 (("bytes = 12", "bytes = 300"), "30:1: refused BadMessage: `bytes` of message alarm is 300"),
                 (('"pedal"', '"speed"'), "19:1: refused BadMessage: two messages have the name speed"),
                 (("sporadic = true", "sporadic = true\nguarded = true\nsegment = \"dynamic\""),

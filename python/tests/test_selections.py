@@ -4,7 +4,8 @@ from argparse import ArgumentTypeError
 from pathlib import Path
 
 from musmyrtle.selections import (
-    Directory, Place, Receivers, Span, UnknownWord, cycles_in, cycles_of, places_in, places_of, single_slot,
+    Directory, Place, Receivers, Span, UnknownWord, channels_of, cycles_in, cycles_of, places_in, places_of,
+    single_slot, some_cycles,
 )
 from tests.shows import THREE, Shows
 
@@ -26,13 +27,28 @@ class TestCycles(unittest.TestCase):
         for word in ("", ",", "1,", "*", "5-3", "0-4/0", "1/2", "-1", "1 2", "s1", "12345", "0x1", "\u0661"):
             with self.assertRaises(ArgumentTypeError, msg=word):
                 cycles_of(word)
-        for word, why in (("*", "'*' isn't taken here: without the option all cycles are selected"),
-                          ("0,5-3", "'5-3' has no cycle, since 5 is above 3"),
+        for word, why in (("0,5-3", "'5-3' has no cycle, since 5 is above 3"),
                           ("0-4/0", "'0-4/0' has no cycle, since its step is 0"),
                           ("0..4", "'0..4' is no cycle, and no range as 8-16 or 0-14/2")):
             with self.assertRaises(ArgumentTypeError) as refused:
                 cycles_of(word)
             self.assertEqual(str(refused.exception), why)
+
+    def test_every_cycle(self):
+        self.assertEqual([some_cycles(it) for it in ("*", "*,3", "0-1,*")], [None] * 3)
+        self.assertEqual(some_cycles("0-4/2,7"), cycles_of("0-4/2,7"))
+        for word in ("*,", "**", "*,5-3", "0-*", ""):
+            with self.assertRaises(ArgumentTypeError, msg=word):
+                some_cycles(word)
+
+
+class TestChannels(unittest.TestCase):
+    def test_words(self):
+        self.assertEqual([channels_of(it) for it in ("A", "B", "AB", "A,B", "B,A", "A,A", "AB,B")],
+                         ["A", "B", "AB", "AB", "AB", "A", "AB"])
+        for word in ("", "C", "BA", "A,", "a", "*", "AA"):
+            with self.assertRaises(ArgumentTypeError, msg=word):
+                channels_of(word)
 
 
 class TestPlaces(unittest.TestCase):
@@ -42,22 +58,25 @@ class TestPlaces(unittest.TestCase):
                                  Place("m", Span(1, 9, 4)), Place("s", None), Place("m", None)))
         self.assertEqual(places_of("4,s5-6,d7,m1-9/4,s*,m*,all"),
                          {"s4", "s5", "s6", "d7", "m1", "m5", "m9", "s*", "m*", "all"})
+        self.assertEqual((places_in("*"), places_of("*"), places_of("*,s1")),
+                         ((Place("", None),), {"all"}, {"all", "s1"}))
 
     def test_windows(self):
         """A window by slot and minislot: static slot 4, dynamic slot 7 at minislot 2, and minislot 3 without a slot."""
         windows = ((4, None, True), (7, 2, False), (None, 3, False))
         for word, has in (("4", (True, False, False)), ("s4", (True, False, False)), ("d4", (False,) * 3),
                           ("s7", (False,) * 3), ("d7", (False, True, False)), ("7", (False, True, False)),
-                          ("m2-3", (False, True, True)), ("s*", (True, False, False)), ("m*", (False, True, True))):
+                          ("m2-3", (False, True, True)), ("s*", (True, False, False)), ("m*", (False, True, True)),
+                          ("*", (True, True, True))):
             place, = places_in(word)
             self.assertEqual(tuple(place.has(*it) for it in windows), has, word)
 
     def test_a_single_slot(self):
-        self.assertEqual([single_slot(places_in(it)) for it in ("4", "s4", "d7", "3-4", "3,4", "m4", "s*")],
-                         [4, 4, 7, None, None, None, None])
+        self.assertEqual([single_slot(places_in(it)) for it in ("4", "s4", "d7", "3-4", "3,4", "m4", "s*", "*")],
+                         [4, 4, 7, None, None, None, None, None])
 
     def test_other_words(self):
-        for word in ("", "x1", "d*", "*", "s", "s5-3", "m4-", "all"):
+        for word in ("", "x1", "d*", "**", "s", "s5-3", "m4-", "all"):
             with self.assertRaises(ArgumentTypeError, msg=word):
                 places_in(word)
 
@@ -120,6 +139,18 @@ class TestFilters(Shows):
             with self.subTest(words):
                 self.assertEqual(self.values("transmission", "slot minislot", "log", *run, "--slot", words), wanted)
 
+    def test_words_for_all(self) -> None:
+        """The words of a scenario for every window, cycle and channel leave the tables as they are without them."""
+        run = self.run_of()
+        for command in ("log", "commits", "reads"):
+            every = self.printed(command, *run, "--json")
+            for words in (("--slot", "*"), ("--in-cycles", "*"), ("--slot", "s1,*", "--in-cycles", "0,*")):
+                self.assertEqual(self.printed(command, *run, "--json", *words), every, words)
+        every = self.values("transmission", "slot channel", "log", *run)
+        for word in ("AB", "A,B"):
+            self.assertEqual(self.values("transmission", "slot channel", "log", *run, "--channel", word), every)
+        self.assertEqual(self.values("latency", "slot", "latency", run[0], "--slot", "d4", "--channel", "AB"), [(4,)])
+
     def test_places_of_other_commands(self) -> None:
         run = self.run_of()
         self.assertEqual(self.values("commit", "slot", "commits", *run, "--slot", "m*"), [(3,), (3,), (4,)])
@@ -162,7 +193,7 @@ class TestFilters(Shows):
 
     def test_wrong_words(self) -> None:
         run = self.run_of()
-        places = "places are static slots as 1 or s3-5, dynamic slots as d7, minislots as m4, s* or m*"
+        places = "places are static slots as 1 or s3-5, dynamic slots as d7, minislots as m4, s*, m* or *"
         for words, told in (
                 (("commits", *run, "--slot", "m4"),
                  ": m4: rows of this command have no minislot; give slots, as s1 or d3"),
@@ -170,6 +201,7 @@ class TestFilters(Shows):
                 (("log", *run, "--slot", "d2"), ": the cluster has no dynamic slot 2: its dynamic slots are 3 to 12"),
                 (("log", *run, "--slot", "m11"), ": the cluster has no minislot 11: its minislots are 1 to 10"),
                 (("log", *run, "--slot", "all"), f" log: argument --slot: 'all' is no place: {places}"),
+                (("log", *run, "--channel", "C"), " log: argument --channel: 'C' is no channel: expected A, B or AB"),
                 (("log", *run, "--in-cycles", "0-1/0"),
                  " log: argument --in-cycles: '0-1/0' has no cycle, since its step is 0"),
                 (("log", *run, "--node", "0-2"), ": the cluster has 2 nodes, and none is 2; names: pedal, brake"),

@@ -433,7 +433,7 @@ class Help(Shows):
     def test_completion_for_bash(self) -> None:
         script = self.written("script", self.printed("completion", "bash"))
         for words, expected in (
-            (("co",), "commits completion"), (("log", "--cha"), "--channel"), (("log", "--channel", ""), "A B"),
+            (("co",), "commits completion"), (("log", "--cha"), "--channel"), (("log", "--channel", ""), "A B AB"),
             (("completion", "b"), "bash"), (("log", "--cycles", ""), ""),
             (("check", "--"), "--help --version --json --csv"),
         ):

@@ -163,12 +163,20 @@ def free_name(first: str, taken: set[str]) -> str:
 
 
 def least_frames(messages: Iterable[Message], room: int) -> int:
-    """Returns a bound: no packing of the signals, of any periods, has fewer frames."""
-    bits: dict[tuple[int, bool, str, str], int] = defaultdict(int)
+    """Returns a bound: no packing of the signals, of any periods, has fewer frames.
+
+    Signals on either channel may be in any frame of their sender, so they count only where their sum needs more frames.
+    """
+    groups: dict[tuple[int, bool, str], dict[str, int]] = defaultdict(lambda: defaultdict(int))
     for it in messages:
         if it.bits:
-            bits[it.sender, it.is_static, it.channels, it.kind] += it.bits
-    return sum(-(-it // (8 * (room if is_static else DYNAMIC_ROOM))) for (_, is_static, _, _), it in bits.items())
+            groups[it.sender, it.is_static, it.kind][it.channels] += it.bits
+    least = 0
+    for (_, is_static, _), bits in groups.items():
+        most = 8 * (room if is_static else DYNAMIC_ROOM)
+        fixed = sum(-(-count // most) for channels, count in bits.items() if channels != EITHER)
+        least += max(fixed, -(-sum(bits.values()) // most))
+    return least
 
 
 def on_both(it: Frame) -> Frame:

@@ -113,7 +113,7 @@ class NetworkReading:
         """Yields the tables of an array at the top of the file."""
         held = self.document.get(key, [])
         if not isinstance(held, list) or not 1 <= len(held) <= most:
-            found = f"`{key}` is an array of {len(held)}" if isinstance(held, list) and held else f"no `[[{key}]]`"
+            found = f"{len(held)} tables `[[{key}]]`" if isinstance(held, list) and held else f"no `[[{key}]]`"
             found = found if isinstance(held, list) else f"`{key}`, which is {shown(held)}"
             self.fault(f"Bad{key.capitalize()}", f"the file has {found}",
                        f"Expected 1 to {most} tables `[[{key}]]`.", (key,))
@@ -318,19 +318,16 @@ class MessageReading:
             self.contradiction(f"{self.who} has `{given[0]}` and `{given[1]}`", "Expected one of both.", *given)
         if not given:
             return None
-        key, value = given[0], exact_in_file(self.table[given[0]])
-        if value is None or value <= 0:
-            self.wrong(key, "Expected a number above 0.")
-            return None
+        key, value = given[0], exact_in_file(self.table[given[0]]) or Fraction(0)
         if key.endswith("cycles"):
-            if value.denominator == 1 and value <= LONGEST_TIME:
+            if value.denominator == 1 and 1 <= value <= LONGEST_TIME:
                 return -int(value)
-            self.wrong(key, "Expected a whole number of cycles.")
+            self.wrong(key, "Expected a whole number of cycles, at least 1.")
             return None
         macrotick = exact_in_file(self.network.network.macrotick_us) or Fraction(1)
         found = value * 1000 / macrotick
         if not 1 <= found <= LONGEST_TIME:
-            self.wrong(key, "Expected a time of at least one macrotick, and at most twelve days.")
+            self.wrong(key, "Expected milliseconds above 0: at least one macrotick, and at most 2^40 macroticks.")
             return None
         return int(found)
 

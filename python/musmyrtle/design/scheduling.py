@@ -6,13 +6,13 @@ from fractions import Fraction
 from math import ceil
 
 from musmyrtle.cluster import LAST_SLOT, MOST_LINES, PARAMETERS, Parameters
-from musmyrtle.design.frames import Frame, frames_of, least_frames
+from musmyrtle.design.frames import DYNAMIC_ROOM, Frame, frames_of, least_frames
 from musmyrtle.design.keeping import NO_LIMIT, Kept
 from musmyrtle.design.network import Network
 from musmyrtle.design.packing import Item, NoSlot, Placed, Slots, least_slots, packed
 from musmyrtle.design.parameters import Setting
 from musmyrtle.design.searching import ROUNDS, Copy, Found, Search, Tell, copies_of
-from musmyrtle.findings import counted
+from musmyrtle.findings import counted, joined
 from musmyrtle.texts import FILE_LIMIT
 
 MOST_CYCLE, MOST_CYCLES_TRIED = PARAMETERS["cycle_mt"][1], 50
@@ -185,10 +185,15 @@ class Scheduler:
         """Notes how many frames the signals have, and the bound of it."""
         shared = [it for it in self.made.frames if it.members and it.members[0].bits]
         if shared:
-            bound = least_frames(self.network.messages, 2 * self.setting.static_words or 1)
+            room = 2 * self.setting.static_words or 1
+            bound = least_frames(self.network.messages, room)
             signals = sum(len(it.members) for it in shared)
+            lengths = [text for text, is_static in ((f"static frames of {counted(room, 'byte')}", True),
+                                                    (f"dynamic frames of at most {DYNAMIC_ROOM} bytes", False))
+                       if any(it.is_static == is_static for it in shared)]
             self.made.notes.append(f"{counted(signals, 'signal')} {'has' if signals == 1 else 'have'} "
-                                   f"{counted(len(shared), 'frame')}, and no packing has fewer than {bound}")
+                                   f"{counted(len(shared), 'frame')}, and no packing into {joined(lengths)} has fewer "
+                                   f"than {bound}")
 
     def no_room(self, wanted: int) -> None:
         """Notes that the static segment doesn't fit, with the least cycle for which it does."""
@@ -278,9 +283,12 @@ class Scheduler:
             channels = 2 if channel == "both channels" else 1
             if count > channels * room:
                 least = ceil(Fraction(count) / channels) - parameters.idle
+                slots = max([self.setting.static_slots[0], *(slot for slot, _ in self.made.slots.owners)])
+                has_room = least * parameters.minislot_mt <= self.setting.room - slots * parameters.static_mt
+                change = f"at least {least} minislots in a cycle of this length, " if has_room else ""
                 self.miss("dynamic segment", f"by their deadlines its frames need {ceil(count)} minislots of each "
                           f"cycle on {channel}, with idle ones, and there are {channels * parameters.minislots}",
-                          f"at least {least} minislots in a cycle of this length, longer deadlines, or shorter frames")
+                          f"{change}longer deadlines, or shorter frames")
                 return True
         return False
 

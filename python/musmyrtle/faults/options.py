@@ -11,8 +11,7 @@ from musmyrtle.faults.runs import OUTCOME
 from musmyrtle.findings import counted
 from musmyrtle.lint.command import Parser, add_forms, cycles_of, shown_examples
 from musmyrtle.program import by_option, usual_program
-from musmyrtle.selections import cycles_of as cycles_word
-from musmyrtle.selections import places_of
+from musmyrtle.selections import places_of, some_cycles
 
 COMMAND = "musmyrtle faults"
 ABOUT = """Prints the costs of each single fault of a network: a run for each, compared with the run without it.
@@ -61,8 +60,8 @@ def arguments() -> argparse.ArgumentParser:
     add("--nodes", metavar="NODE,..", help="only faults of these nodes, as 0,3-5,brake, and of their frames")
     add("--slots", metavar="PLACE,..", type=places_of,
         help="only faults at these places: static slots as 1,s3-5, minislots as m7, dynamic slots as d9, s* or m* for "
-             "all of a segment, and all")
-    add("--in-cycle", "--in-cycles", metavar="CYCLE,..", type=cycles_word, dest="in_cycles",
+             "all of a segment, and all, as *, for all that a node sends")
+    add("--in-cycle", "--in-cycles", metavar="CYCLE,..", type=some_cycles, dest="in_cycles",
         help="in these cycles of the run, as 8-16 or 0-14/2,20, instead of in every one")
     add("--run-proved", action="store_true",
         help="run the faults that are proved to be harmless, too: babbles that guardians stop")

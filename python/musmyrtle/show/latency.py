@@ -25,7 +25,7 @@ def latencies(inputs: Inputs) -> tuple[list[Latency], list[Load]]:
 
 def way(inputs: Inputs, slot: int | None, channel: str | None) -> list[Section]:
     """Returns the way to the latest start of a slot, if one slot and a channel are given."""
-    if slot is None or channel is None:
+    if slot is None or channel is None or len(channel) > 1:
         return []
     network = inputs.network
     words = [*words_for_way(slot, channel), "--", inputs.task.file(inputs.task.cluster)]

@@ -6,7 +6,7 @@ from textwrap import fill
 from musmyrtle.findings import counted
 from musmyrtle.lint.command import Parser, add_forms, shown_examples
 from musmyrtle.lint.command import cycles_of as number_of_cycles
-from musmyrtle.selections import cycles_of, places_in
+from musmyrtle.selections import channels_of, places_in, some_cycles
 
 HELP = ("below each row also the signals of its payload, by the frames of the cluster file: a line for each in a text, "
         "a key `signals` with --json, and a row of the kind `signal` for each with --csv")
@@ -50,8 +50,8 @@ def arguments(name: str, purpose: str, words: Words, examples: tuple[str, ...]) 
         add("--buffer", metavar="[NODE.]BUFFER,..", action="append", default=[],
             help="only rows of these buffers, as brake.force or 2.0-1, or of one of each --node, as force")
     if words.has_cycles:
-        add("--in-cycles", metavar="CYCLE,..", type=cycles_of,
-            help="only rows of these cycles of the run, as 0-10/2,13")
+        add("--in-cycles", metavar="CYCLE,..", type=some_cycles,
+            help="only rows of these cycles of the run, as 0-10/2,13, or * for all")
         add("--errors", action="store_true", help="only rows with an error")
     if words.has_run:
         add("--signals", action="store_true", help=HELP)
@@ -66,8 +66,8 @@ def add_places(parser: argparse.ArgumentParser) -> None:
         help="only rows of these nodes, by names or numbers, as brake,0,3-5; it may be given several times")
     add("--slot", metavar="PLACE,..", type=places_in,
         help="only rows of these slots, as 1,3-5, or s3-5 for static and d7 for dynamic ones, s* or m* for all of a "
-             "segment, and in `log` m4 for a minislot")
-    add("--channel", choices=("A", "B"), help="only rows of this channel")
+             "segment, * for all, and in `log` m4 for a minislot")
+    add("--channel", type=channels_of, choices=("A", "B", "AB"), help="only rows of this channel, or of both")
 
 
 def parsed(parser: argparse.ArgumentParser, words: list[str]) -> argparse.Namespace:

@@ -12,7 +12,7 @@ from musmyrtle.findings import counted
 from musmyrtle.lint.command import REFUSED, Parser, add_forms, formed, is_bold_on, printed, shown_examples
 from musmyrtle.missed import MISSED, UNJUDGED
 from musmyrtle.output import Stop, pass_on
-from musmyrtle.selections import cycles_of
+from musmyrtle.selections import some_cycles
 from musmyrtle.show.ages import age_of
 from musmyrtle.show.arrivals import Arrivals, Due
 from musmyrtle.show.choice import Chosen, Words, known_names
@@ -97,8 +97,8 @@ def add_choice(parser: argparse.ArgumentParser) -> None:
         help="only rows of these receive buffers, as brake.engine or 2.0-1, or of one of each --node, as engine")
     add("--signal", metavar="SIGNAL,..", action="append", default=[],
         help="only rows of these signals, at each of the receivers")
-    add("--in-cycles", metavar="CYCLE,..", type=cycles_of,
-        help="only rows of these cycles of the run, as 0-10/2,13")
+    add("--in-cycles", metavar="CYCLE,..", type=some_cycles,
+        help="only rows of these cycles of the run, as 0-10/2,13, or * for all")
     add("--errors", action="store_true", help="only rows of lost frames, and of values out of their limits")
 
 

@@ -18,7 +18,7 @@ from musmyrtle.lint.command import USAGE
 from musmyrtle.lint.lint import Task, read_bytes
 from musmyrtle.named_windows import EVERY_DYNAMIC
 from musmyrtle.output import Stop, pass_on
-from musmyrtle.selections import ALL, cycles_of, places_of
+from musmyrtle.selections import ALL, places_of, some_cycles
 from musmyrtle.show.engines import COMMAND, Inputs
 from musmyrtle.show.facts import Facts
 from musmyrtle.show.selection import numbers_of_nodes
@@ -48,7 +48,7 @@ def add_faults(parser: argparse.ArgumentParser) -> None:
         help=f"of these faults only the kinds {', '.join(KINDS)}")
     add("--fault-slots", metavar="PLACE,..", type=places_of,
         help="of these faults those at these places, as s3-5,d7,m*,all")
-    add("--fault-cycles", metavar="CYCLE,..", type=cycles_of,
+    add("--fault-cycles", metavar="CYCLE,..", type=some_cycles,
         help="these faults in these cycles of the run alone, as 8-16, instead of in every one")
     add("--fault", metavar="LINE", action="append", default=[],
         help="also a run with this fault line, as 'lost engine 2-4'; it may be given several times")
