@@ -146,9 +146,9 @@ class TestFilters(Shows):
             every = self.printed(command, *run, "--json")
             for words in (("--slot", "*"), ("--in-cycles", "*"), ("--slot", "s1,*", "--in-cycles", "0,*")):
                 self.assertEqual(self.printed(command, *run, "--json", *words), every, words)
-        every = self.values("transmission", "slot channel", "log", *run)
+        both = self.values("transmission", "slot channel", "log", *run)
         for word in ("AB", "A,B"):
-            self.assertEqual(self.values("transmission", "slot channel", "log", *run, "--channel", word), every)
+            self.assertEqual(self.values("transmission", "slot channel", "log", *run, "--channel", word), both)
         self.assertEqual(self.values("latency", "slot", "latency", run[0], "--slot", "d4", "--channel", "AB"), [(4,)])
 
     def test_places_of_other_commands(self) -> None:
