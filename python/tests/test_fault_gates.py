@@ -166,11 +166,11 @@ class TestDynamicSlots(Gates):
                                    "one")):
             with self.subTest(words):
                 self.assertEqual(self.faults(*words)[2].splitlines()[-1], f"musmyrtle faults: {told}")
-        for word in ("d*", "x5", "s", "m", "*", "1-", "s5-3", "m4-2", "1/2", "0-4/0"):
+        for word in ("d*", "x5", "s", "m", "1-", "s5-3", "m4-2", "1/2", "0-4/0"):
             with self.subTest(word):
                 status, _, told = self.faults("--slots", word)
                 self.assertIn(f"argument --slots: {word!r} is no place: places are static slots as 1 or s3-5, dynamic "
-                              "slots as d7, minislots as m4, s* or m*, and all", told)
+                              "slots as d7, minislots as m4, s*, m* or *, and all", told)
                 self.assertEqual(status, 2)
 
 

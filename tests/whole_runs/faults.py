@@ -122,7 +122,7 @@ class Faults:
                       ["missing", *THREE_NODES[1:]], [THREE_NODES[0], "missing", "--cycles", "4"]):
             lint = run([sys.executable, "-B", TOP / "musmyrtle", "lint", "--program", self.bench, *words])
             self.runs.compare(f"what is refused of {words[:2]}", self.ask(*words), ("", lint[0].decode(), 1))
-        no_words = (["--kinds", "mutes"], ["--nodes", "x"], ["--in-cycle", "4"], ["--in-cycle", "3-2"], ["--in-cycle", "*"],
+        no_words = (["--kinds", "mutes"], ["--nodes", "x"], ["--in-cycle", "4"], ["--in-cycle", "3-2"],
                     ["--in-cycles", "0-3/0"], ["--resume"], ["--fail-on", "worse"],
                     ["--sshlogin", "a"], ["--against", "missing"], ["--against", EXAMPLES / "three-nodes/plan"],
                     ["--program", "missing"])
