@@ -10,19 +10,20 @@ from musmyrtle.replay.places import Cell, Heard, Windows
 
 SECONDS_TO_MACROTICKS = 1_000_000
 """Captures of the bench have a macrotick as a microsecond."""
-Place = tuple[int, str, str]
-"""A cycle of the run, a channel, and a static slot as a word `s3`, or the place in the order of the dynamic frames."""
 
 
 @dataclass(frozen=True)
 class Difference:
-    """A frame of the recording that the run doesn't give back, or a frame that it gives beside, at a place."""
+    """A frame of the recording that the run doesn't give back, or a frame that it gives beside, at a place.
+
+    `other` is the frame that the run has in the same static slot.
+    """
 
     cycle: int
     channel: str
     slot: str
     heard: Heard | None
-    has_other: bool
+    other: Seen | None = None
 
 
 def records_of_bus(data: bytes) -> Iterator[tuple[int, str, Seen]]:
@@ -57,7 +58,7 @@ def differences(given: Given, windows: Windows, its: Parameters, shift: int, cyc
     for key in sorted({*static, *given.static}):
         heard, seen = static.get(key), given.static.get(key)
         if seen != (heard and heard.seen):
-            yield Difference(key[0], key[1], f"slot {key[2]}", heard, seen is not None)
+            yield Difference(key[0], key[1], f"slot {key[2]}", heard, seen)
     for cell in sorted({*dynamic, *given.dynamic}):
         yield from unequal(cell, dynamic.get(cell, []), given.dynamic.get(cell, []))
 
@@ -93,12 +94,12 @@ def unequal(cell: Cell, heard: list[Heard], seen: list[Seen]) -> Iterator[Differ
         if it.seen in rest:
             # Frames before it in the run are beside the recording.
             for other in rest[:rest.index(it.seen)]:
-                yield Difference(*cell, dynamic_slot(other), None, True)
+                yield Difference(*cell, dynamic_slot(other), None)
             rest = rest[rest.index(it.seen) + 1:]
         else:
-            yield Difference(*cell, dynamic_slot(it.seen), it, False)
+            yield Difference(*cell, dynamic_slot(it.seen), it)
     for other in rest:
-        yield Difference(*cell, dynamic_slot(other), None, True)
+        yield Difference(*cell, dynamic_slot(other), None)
 
 
 def dynamic_slot(seen: Seen) -> str:

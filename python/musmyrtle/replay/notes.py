@@ -3,10 +3,12 @@ from collections.abc import Iterable, Iterator
 
 from musmyrtle.findings import counted
 from musmyrtle.named_windows import spelled
+from musmyrtle.replay.captured import Seen
 from musmyrtle.replay.checking import Difference
 from musmyrtle.replay.places import Heard
 
-OTHER, NOTHING = "the run has another frame there", "the run has no frame there"
+OTHER, NOTHING = "the run has another frame there", "the run has no such frame there"
+FLAG = "the run has its bytes with another error flag"
 BESIDE = "the recording has no such frame"
 
 
@@ -14,16 +16,18 @@ def difference_lines(its: Iterable[Difference], whys: dict[int, str], shift: int
     """Yields a line for all differences that are alike in some cycles, which are those of the recording."""
     found: dict[tuple[str, str, str], list[Difference]] = {}
     for it in its:
-        if it.heard is None:
-            why = BESIDE
-        else:
-            why = whys.get(it.heard.record, OTHER if it.has_other else NOTHING)
+        why = BESIDE if it.heard is None else whys.get(it.heard.record) or why_not(it.heard.seen, it.other)
         found.setdefault((it.slot, it.channel, why), []).append(it)
     for (slot, channel, why), alike in found.items():
         cycles = ",".join(spelled(sorted({it.cycle - shift for it in alike})))
         records = [it.heard.record for it in alike if it.heard]
         what = f"{records_text(records)} given back" if records else "a frame is beside the recording"
         yield f"cycle {cycles}, {slot} on {channel}: {what}: {why}"
+
+
+def why_not(seen: Seen, other: Seen | None) -> str:
+    """Returns why a frame isn't given back, by what the run has in its place."""
+    return NOTHING if other is None else FLAG if other.data == seen.data else OTHER
 
 
 def records_text(records: list[int]) -> str:

@@ -7,7 +7,7 @@ from dataclasses import dataclass, field
 
 from musmyrtle.cluster import CYCLES, LAST_SLOT, Buffer, Cluster
 from musmyrtle.replay.bits import HEADER_BYTES, TRAILER_BYTES, flipped_bit, sent
-from musmyrtle.replay.captured import FRAME_CRC, HEADER_CRC, WRONG_LENGTH
+from musmyrtle.replay.captured import WRONG_LENGTH
 from musmyrtle.replay.places import Heard, Windows
 from musmyrtle.replay.senders import Forms, Senders
 from musmyrtle.show.windows import CHANNELS
@@ -35,25 +35,21 @@ class Actions:
 def bit_of(offer: bytes, it: Heard) -> int | None:
     """Returns the bit whose flip makes the frame that was seen of an offer, or None if there is no such bit.
 
-    With a wrong frame CRC the trailer wasn't seen, so that it may be the one with the wrong bit.
+    The trailer wasn't seen. So it may be the one with the wrong bit, unless the header is.
     """
     seen = it.seen
     if seen.error == WRONG_LENGTH:
         bit = flipped_bit(sent(offer, it.channel), seen.data)
         return bit if bit != -1 else None
-    if seen.error not in (FRAME_CRC, HEADER_CRC):
-        return None
-    bit = flipped_bit(offer, seen.data)
-    if bit == -1:
-        return 8 * (len(offer) + TRAILER_BYTES) - 1 if seen.error == FRAME_CRC else None
-    return bit
+    bit = flipped_bit(offer, seen.data) if seen.error else None
+    return 8 * (len(offer) + TRAILER_BYTES) - 1 if bit == -1 else bit
 
 
 def bytes_for(it: Heard) -> bytes:
     """Returns bytes of which a listener sees the frame."""
     if it.seen.error == WRONG_LENGTH:
         return it.seen.data
-    return sent(it.seen.data, it.channel, it.seen.error == FRAME_CRC)
+    return sent(it.seen.data, it.channel, it.seen.error != 0)
 
 
 class Sending:
