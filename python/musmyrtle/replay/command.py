@@ -7,7 +7,7 @@ from musmyrtle.breaking import breaking_off
 from musmyrtle.cluster import CYCLES
 from musmyrtle.ending import FINE, status_of
 from musmyrtle.findings import counted
-from musmyrtle.lint.command import REFUSED, USAGE, Parser, lasting_file, shown_examples
+from musmyrtle.lint.command import REFUSED, USAGE, Parser, lasting_file, shown_examples, spare
 from musmyrtle.lint.runs import MOST_CYCLES
 from musmyrtle.names import LineNames
 from musmyrtle.output import Stop, pass_on, write
@@ -123,12 +123,19 @@ def replay(inputs: Inputs, given: argparse.Namespace, listened: Listened, file: 
     return text, notes, not found and not left
 
 
+def lasting_recording(given: argparse.Namespace, files: ExitStack) -> str:
+    """Returns a name under which the recording can be read twice, also if it is a pipe."""
+    if given.recording == STANDARD_INPUT:
+        source_of(given, files)
+        return lasting_file("/dev/stdin", files)
+    spare([("the recording", given.recording)])
+    return lasting_file(given.recording, files)
+
+
 def done(given: argparse.Namespace) -> int:
     """Prints the replay of a recording, and returns the status."""
     with ExitStack() as files:
-        source_of(given, files)
-        name = "/dev/stdin" if given.recording == STANDARD_INPUT else given.recording
-        file = lasting_file(name, files)
+        file = lasting_recording(given, files)
         # `fr_monitor` judges the whole recording, with all findings.
         words = argparse.Namespace(**{**vars(given), "findings": MOST_NUMBER, "channel": None, "whole": False,
                                       "times": False, "macrotick": None})

@@ -61,7 +61,7 @@ class Windows:
         """Puts a frame into a slot, which has at most one."""
         its = self.of_slot.setdefault((cycle, it.channel), {})
         if slot in its:
-            self.left.append((it, cycle, "another frame was seen in its window"))
+            self.left.append((it, cycle, f"another frame was seen in its window, that of slot {slot}"))
         else:
             its[slot] = it
 
@@ -113,21 +113,26 @@ class Placing:
     def __init__(self, cluster: Cluster, frames: list[Heard]) -> None:
         self.its, self.clock, self.windows = cluster.parameters, Clock(cluster, frames), Windows()
         self.static_end = self.its.static_slots * self.its.static_mt
-        for it in frames:
-            self.place(it, self.clock.macrotick(it.nanoseconds))
+        times = {it.record: self.clock.macrotick(it.nanoseconds) for it in frames}
+        # Of two frames in a window, the one that fits stays.
+        for it in sorted(frames, key=lambda it: not self.is_right(it, times[it.record])):
+            self.place(it, times[it.record])
         for later in self.windows.of_minislot.values():
             later.sort(key=lambda it: (it[0], it[1].record))
 
     def place(self, it: Heard, time: float | None) -> None:
         """Puts a frame at the macrotick TIME, if that is known, into its window."""
         is_known = it.cycle is not None and it.slot is not None
-        is_right = it.is_good and it.findings <= IN_PLACE and self.agrees(it, time)
-        if is_known and (is_right or time is None):
+        if is_known and (time is None or self.is_right(it, time)):
             self.windows.put(it, it.cycle or 0, it.slot or 0)
         elif time is None:
             self.windows.left.append((it, it.cycle, "it isn't known in which window it was sent"))
         else:
             self.place_by_time(it, time)
+
+    def is_right(self, it: Heard, time: float | None) -> bool:
+        """Returns whether a frame fits into the slot of its header."""
+        return it.is_good and it.findings <= IN_PLACE and self.agrees(it, time)
 
     def agrees(self, it: Heard, time: float | None) -> bool:
         """Returns whether the place of a frame by its header agrees with its time, if there is one."""
