@@ -182,7 +182,7 @@ def frames_of(capture: bytes) -> list[tuple[int, bytes]]:
     """Returns the cycle and the bytes of each record, in the order of cycles and channels."""
     found, at = list[tuple[int, bytes]](), 24
     while at < len(capture):
-        time, length = int.from_bytes(capture[at + 4:at + 8], "little"), int.from_bytes(capture[at + 8:at + 12], "little")
+        time, length = (int.from_bytes(capture[at + it:at + it + 4], "little") for it in (4, 8))
         found.append((time // 100, capture[at + 16:at + 16 + length]))
         at += 16 + length
     return sorted(found, key=lambda it: (it[0], it[1][0]))

@@ -108,7 +108,7 @@ def replay(inputs: Inputs, given: argparse.Namespace, listened: Listened, file: 
     text_file, frames = frames_in(inputs)
     with open(file, "rb") as source:
         heard = list(listened.heard(source))
-    windows = Placing(frames.cluster, heard).windows
+    windows = Placing(frames.cluster, heard, inputs.network.macrotick).windows
     part = Part(listened, windows, given.cycles)
     its = frames.cluster.parameters
     actions = Sending(frames.cluster, Senders(frames.cluster, text_file), windows, part.shift, part.cycles).actions

@@ -59,6 +59,8 @@ class Windows:
 
     def put(self, it: Heard, cycle: int, slot: int) -> None:
         """Puts a frame into a slot, which has at most one."""
+        if self.is_early(it, cycle):
+            return
         its = self.of_slot.setdefault((cycle, it.channel), {})
         if slot in its:
             self.left.append((it, cycle, f"another frame was seen in its window, that of slot {slot}"))
@@ -67,23 +69,31 @@ class Windows:
 
     def put_later(self, it: Heard, cycle: int, minislot: int) -> None:
         """Puts a frame into the window that is open at a minislot."""
-        self.of_minislot.setdefault((cycle, it.channel), []).append((minislot, it))
+        if not self.is_early(it, cycle):
+            self.of_minislot.setdefault((cycle, it.channel), []).append((minislot, it))
+
+    def is_early(self, it: Heard, cycle: int) -> bool:
+        """Returns whether a frame comes before the first cycle, and keeps it as one without a window."""
+        if cycle < 0:
+            self.left.append((it, cycle, "it was seen before the first cycle that is known"))
+        return cycle < 0
 
 
 class Clock:
     """The macroticks of a recording by its times: those of static frames that fit, and between them in proportion."""
 
-    def __init__(self, cluster: Cluster, frames: Iterable[Heard]) -> None:
+    def __init__(self, cluster: Cluster, frames: Iterable[Heard], nanoseconds: float) -> None:
+        """NANOSECONDS is the length of a macrotick, of use if the static frames that fit are of one time."""
         self.cluster, self.margin = cluster, cluster.parameters.static_mt / 2
-        points = sorted((it.nanoseconds, place, it.record) for it in frames if it.is_good and not it.findings
-                        and it.nanoseconds is not None and (place := self.place_of(it)) is not None)
-        its = [(nanoseconds, place, record) for nanoseconds, place, record in points if nanoseconds is not None]
+        its = sorted((time, place, it.record) for it in frames if it.is_good and not it.findings
+                     and (time := it.nanoseconds) is not None and (place := self.place_of(it)) is not None)
         rates = [(two[0] - one[0]) / (two[1] - one[1]) for one, two in pairwise(its) if two[1] > one[1]]
-        self.rate = median(rates) if rates else 0
+        self.rate = median(rates) if rates else nanoseconds
         agrees = [self.rate > 0 and abs(two[0] - one[0] - self.rate * (two[1] - one[1])) < self.margin * self.rate
                   for one, two in pairwise(its)]
         kept = [it for it, before, after in zip(its, [False, *agrees], [*agrees, False]) if before or after]
-        self.is_of_use = len(kept) > 1 and (len(its) - len(kept)) * MOST_WRONG <= len(its)
+        kept = kept if rates else its[:1]
+        self.is_of_use = bool(kept) and (not rates or (len(its) - len(kept)) * MOST_WRONG <= len(its))
         self.times, self.macroticks = [it[0] for it in kept], [it[1] for it in kept]
         self.sure = {it[2] for it in kept}
         """The records of the frames that give the times."""
@@ -110,8 +120,10 @@ class Clock:
 class Placing:
     """Finds the windows of frames."""
 
-    def __init__(self, cluster: Cluster, frames: list[Heard]) -> None:
-        self.its, self.clock, self.windows = cluster.parameters, Clock(cluster, frames), Windows()
+    def __init__(self, cluster: Cluster, frames: list[Heard], macrotick_us: float | None) -> None:
+        """Captures of the bench have a macrotick as a microsecond, as clusters without `macrotick_us`."""
+        clock = Clock(cluster, frames, 1000 * (macrotick_us or 1))
+        self.its, self.clock, self.windows = cluster.parameters, clock, Windows()
         self.static_end = self.its.static_slots * self.its.static_mt
         times = {it.record: self.clock.macrotick(it.nanoseconds) for it in frames}
         # Of two frames in a window, the one that fits stays.
