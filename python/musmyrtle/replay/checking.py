@@ -1,4 +1,4 @@
-"""What the run of a replay gives back of a recording, by the capture that `fr_view bus` makes of it."""
+"""The comparison of a recording with the run of its replay, of which `fr_view bus` makes a capture."""
 import struct
 from collections.abc import Iterable, Iterator
 from dataclasses import dataclass

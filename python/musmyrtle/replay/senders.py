@@ -1,4 +1,4 @@
-"""What the nodes of a cluster send in each slot by their configuration."""
+"""The frames that the nodes of a cluster send in each slot by their configuration."""
 from dataclasses import dataclass
 
 from musmyrtle.cluster import CYCLES, Buffer, Cluster, Ownership
@@ -12,7 +12,7 @@ Slot = tuple[int, str]
 
 @dataclass(frozen=True)
 class Forms:
-    """What a sender sends in a slot in a cycle: the header of its data frames, and its null frame in a static slot."""
+    """The frames of a slot in a cycle: the header of the sender's data frames, and its null frame in a static slot."""
 
     node: int
     buffer: Buffer | None
