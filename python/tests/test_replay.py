@@ -1,14 +1,17 @@
 """The command `replay`: recordings of the network of `shows`, made by hand, and of runs that `fr_view bus` records."""
 import os
 import random
+import struct
 import subprocess
+import sys
 import unittest
 from pathlib import Path
 
 from tests.shows import NETWORK
 from tests.test_monitor import CYCLE, SLOT, Monitor, frame, frames
 
-VIEW = os.environ.get("MUSMYRTLE_VIEW", str(Path(__file__).resolve().parents[2] / "fr_view"))
+TOP = Path(__file__).resolve().parents[2]
+VIEW = os.environ.get("MUSMYRTLE_VIEW", str(TOP / "fr_view"))
 GUARDED = NETWORK.replace('guard = "none"', 'guard = "AB"')
 MINISLOTS = 80
 """The microseconds from the start of a cycle to its dynamic segment."""
@@ -132,6 +135,29 @@ class Refusals(Replays):
             1, [], "musmyrtle: the run would have 1025 cycles, and a run of a scenario has at most 1024; choose a part "
                    "of the recording with --cycles FIRST-LAST\n"))
 
+    def test_too_many_lines(self) -> None:
+        """In each of 1,024 cycles two buffers have a new payload, and both slots other bytes on B.
+
+        These are 2,048 commits and 2,048 babbles, two mutes of all cycles, and the first and the last line.
+        """
+        records = list[tuple[int, bytes]]()
+        for cycle in range(1024):
+            its = [frame(channel, slot, cycle % 64, (cycle + more).to_bytes(2, "big"), True)
+                   for slot, channel, more in ((1, "A", 0), (1, "B", 4096), (2, "A", 0), (2, "B", 24576))]
+            records += [(cycle * CYCLE + at // 2 * SLOT, data) for at, data in enumerate(its)]
+        status, lines, told = self.replayed(records)
+        self.assertEqual((status, lines), (1, []))
+        self.assertRegex(told, "^musmyrtle: the replay of 1024 cycles would have 4100 lines and [0-9]+ bytes, and a "
+                               "scenario has at most 4096 lines and 1048576 bytes; choose a part of the recording with "
+                               "--cycles FIRST-LAST\n$")
+
+    def test_no_room_for_journals(self) -> None:
+        """A cycle has at most 12 windows, each with two entries, and a node has room for 4,096 entries."""
+        records = [(cycle * CYCLE, frame(channel, 1, cycle % 64)) for cycle in range(1024) for channel in "AB"]
+        status, lines, told = self.replayed(records)
+        self.assertEqual((status, lines), (0, ["lost brake 0-1023"]))
+        self.assertIn("the nodes have no room for the journals of 1024 cycles: run it with --endless\n", told)
+
     def test_a_cycle_that_the_recording_does_not_have(self) -> None:
         self.assertEqual(self.replayed(frames(2), "--cycles", "2-3"), (
             2, [], "musmyrtle: the recording has no cycle 2: its last one is cycle 1\n"))
@@ -146,6 +172,63 @@ class Refusals(Replays):
         status, output, told = self.asked("replay", self.cluster, str(file))
         self.assertEqual((status, output.splitlines()[2:]), (1, ["mute brake B 1 s2", "end"]))
         self.assertIn("refused Truncated", told)
+
+
+class Captures(Replays):
+    """The broken frame of `Faults.test_flipped_bits` in other forms of a capture."""
+
+    def setUp(self) -> None:
+        super().setUp()
+        broken = bytearray(frames(1)[2][1])
+        broken[2 + 3] ^= 0x40
+        self.records = [*frames(1)[:2], (SLOT, bytes(broken)), frames(1)[3]]
+
+    def block(self, order: str, kind: int, body: bytes) -> bytes:
+        """Returns a block of a pcapng file."""
+        length = struct.pack(f"{order}I", 12 + len(body))
+        return struct.pack(f"{order}I", kind) + length + body + length
+
+    def pcapng(self, order: str) -> bytes:
+        """Returns a pcapng file, whose second interface isn't one of FlexRay: its packet is record 3."""
+        file = self.block(order, 0x0A0D0D0A, struct.pack(f"{order}IHHq", 0x1A2B3C4D, 1, 0, -1))
+        for link in (210, 1):
+            file += self.block(order, 1, struct.pack(f"{order}HHI", link, 0, 0))
+        its = [(0, *self.records[0]), (0, *self.records[1]), (1, SLOT, b"abcd"),
+               *((0, *it) for it in self.records[2:])]
+        for source, time, data in its:
+            head = struct.pack(f"{order}IIIII", source, 0, time, len(data), len(data))
+            file += self.block(order, 6, head + data + bytes(-len(data) % 4))
+        return file
+
+    def test_pcapng(self) -> None:
+        for order in "<>":
+            with self.subTest(order):
+                (self.folder / "bus.pcapng").write_bytes(self.pcapng(order))
+                status, output, told = self.asked("replay", self.cluster, str(self.folder / "bus.pcapng"))
+                self.assertEqual((status, output.splitlines()[2:]), (0, ["corrupt A 0 s2 25", "end"]))
+                self.assertIn("musmyrtle: 1 foreign record left out\n", told)
+
+    def test_a_big_endian_file(self) -> None:
+        file = struct.pack(">IHHiIII", 0xA1B2C3D4, 2, 4, 0, 0, 262144, 210)
+        file += b"".join(struct.pack(">IIII", 0, time, len(data), len(data)) + data for time, data in self.records)
+        (self.folder / "bus.pcap").write_bytes(file)
+        status, output, _ = self.asked("replay", self.cluster, str(self.folder / "bus.pcap"))
+        self.assertEqual((status, output.splitlines()[2:]), (0, ["corrupt A 0 s2 25", "end"]))
+
+    def test_a_trailer(self) -> None:
+        """The frame CRC of the frame `200203c1400a0b` is a32217 on A, by docs/formats/frame.md."""
+        right = bytes.fromhex("0100200203c1400a0ba32217")
+        for trailer, lines in ((right, []), (right[:-1] + b"\x16", ["corrupt A 0 s2 79"])):
+            records = [*frames(1)[:2], (SLOT, trailer), frames(1)[3]]
+            self.assertEqual(self.replayed(records)[:2], (0, ["commit brake 0 0 force x0a0b", *lines]))
+
+    def test_standard_input(self) -> None:
+        """A pipe is read once, and kept for the second look."""
+        file = Path(self.recording(self.records)).read_bytes()
+        for name in ((), ("-",), ("/dev/stdin",)):
+            ran = subprocess.run([sys.executable, "-B", str(TOP / "musmyrtle"), "replay", self.cluster, *name],
+                                 input=file, capture_output=True)
+            self.assertEqual((ran.returncode, ran.stdout.splitlines()[2:]), (0, [b"corrupt A 0 s2 25", b"end"]))
 
 
 class Back(Replays):
