@@ -225,7 +225,7 @@ class Captures(Replays):
     def test_standard_input(self) -> None:
         """A pipe is read once, and kept for the second look."""
         file = Path(self.recording(self.records)).read_bytes()
-        for name in ((), ("-",), ("/dev/stdin",)):
+        for name in list[list[str]](([], ["-"], ["/dev/stdin"])):
             ran = subprocess.run([sys.executable, "-B", str(TOP / "musmyrtle"), "replay", self.cluster, *name],
                                  input=file, capture_output=True)
             self.assertEqual((ran.returncode, ran.stdout.splitlines()[2:]), (0, [b"corrupt A 0 s2 25", b"end"]))
