@@ -218,14 +218,16 @@ class Captures(Replays):
     def test_a_trailer(self) -> None:
         """The frame CRC of the frame `200203c1400a0b` is a32217 on A, by docs/formats/frame.md."""
         right = bytes.fromhex("0100200203c1400a0ba32217")
-        for trailer, lines in ((right, []), (right[:-1] + b"\x16", ["corrupt A 0 s2 79"])):
+        cases: list[tuple[bytes, list[str]]] = [(right, []), (right[:-1] + b"\x16", ["corrupt A 0 s2 79"])]
+        for trailer, lines in cases:
             records = [*frames(1)[:2], (SLOT, trailer), frames(1)[3]]
             self.assertEqual(self.replayed(records)[:2], (0, ["commit brake 0 0 force x0a0b", *lines]))
 
     def test_standard_input(self) -> None:
         """A pipe is read once, and kept for the second look."""
         file = Path(self.recording(self.records)).read_bytes()
-        for name in list[list[str]](([], ["-"], ["/dev/stdin"])):
+        names: list[list[str]] = [[], ["-"], ["/dev/stdin"]]
+        for name in names:
             ran = subprocess.run([sys.executable, "-B", str(TOP / "musmyrtle"), "replay", self.cluster, *name],
                                  input=file, capture_output=True)
             self.assertEqual((ran.returncode, ran.stdout.splitlines()[2:]), (0, [b"corrupt A 0 s2 25", b"end"]))
