@@ -16,7 +16,7 @@ ZSH_FIRST = ("autoload -Uz compinit; compinit -u -D", "autoload -Uz _all_matches
              "zstyle ':completion:all::::' completer _all_matches _complete",
              "zstyle ':completion:all:*' insert true", "bindkey '^I' complete-word", "bindkey '^T' all", CATCHING)
 COMMANDS = ("annotate check commits completion decode design diff encode faults help import latency lint log man "
-            "monitor page plan reads run signals")
+            "monitor page plan reads replay run signals")
 ALL = "\x14"
 """The key that inserts all completions, and not only what they have in common."""
 TYPED = (

@@ -9,6 +9,7 @@ import musmyrtle.diff.command
 import musmyrtle.faults.command
 import musmyrtle.faults.options
 import musmyrtle.lint.command
+import musmyrtle.replay.command
 from musmyrtle.breaking import breaking_off
 from musmyrtle.ending import status_of
 from musmyrtle.lint.command import formed, is_bold_on, printed
@@ -139,5 +140,7 @@ COMMANDS = (
             musmyrtle.design.words.arguments, musmyrtle.design.words.main),
     Command("import", imports.PURPOSE, imports.EXAMPLES, imports.arguments, imports.main),
     Command("monitor", monitor.PURPOSE, monitor.EXAMPLES, monitor.arguments, monitor.main),
+    Command("replay", musmyrtle.replay.command.PURPOSE, musmyrtle.replay.command.EXAMPLES,
+            musmyrtle.replay.command.arguments, musmyrtle.replay.command.main),
     Command("page", page.PURPOSE, page.EXAMPLE, page.arguments, page.main),
 )

@@ -1,0 +1,1 @@
+"""Scenarios that replay recordings of a bus."""
